@@ -1,0 +1,5 @@
+pub mod HighFirst
+pub mod LawfulLayouts
+pub mod LawfulKinds
+pub mod RegisterLaws
+pub mod MemoryLaws
