@@ -17,29 +17,27 @@ pub enum Entry<R> {
 
 // The entries of one kind, lent by whoever holds them. Number n stands at place n - 1.
 #[derive(Drop)]
-pub struct Register<'a, R> {
-    pub entries: &'a mut [Entry<R>],
-}
+pub struct Register<'a, R>(pub &'a mut [Entry<R>]);
 
 impl<R: Record> Register<'_, R> {
     // Makes a vacant number open.
     pub fn file(&mut self, number: u8, new: R) -> Result<(), Refusal>
-        ensures answer { λ r. ⌜ r ≡ filing (R·Record .layout) (now (now (self .entry) .entries)) number new .answer ⌝ }
-        ensures same_lender { λ _. ⌜ name (now (self .exit) .entries) ≡ name (now (self .entry) .entries) ⌝ }
-        ensures after { λ _. ⌜ now (now (self .exit) .entries) ≡ filing (R·Record .layout) (now (now (self .entry) .entries)) number new .left ⌝ }
-        ensures moved { λ r. ⌜ Moved (now (now (self .entry) .entries)) number r (now (now (self .exit) .entries)) ⌝ }
+        ensures answer { λ r. ⌜ r ≡ filing (R·Record .layout) (now (now (self .entry) .0)) number new .answer ⌝ }
+        ensures same_lender { λ _. ⌜ name (now (self .exit) .0) ≡ name (now (self .entry) .0) ⌝ }
+        ensures after { λ _. ⌜ now (now (self .exit) .0) ≡ filing (R·Record .layout) (now (now (self .entry) .0)) number new .left ⌝ }
+        ensures moved { λ r. ⌜ Moved (now (now (self .entry) .0)) number r (now (now (self .exit) .0)) ⌝ }
     {
-        file_in(self.entries, number, new)
+        file_in(self.0, number, new)
     }
 
     // Makes an open number withdrawn.
     pub fn withdraw(&mut self, number: u8) -> Result<(), Refusal>
-        ensures answer { λ r. ⌜ r ≡ withdrawing (R·Record .layout) (now (now (self .entry) .entries)) number .answer ⌝ }
-        ensures same_lender { λ _. ⌜ name (now (self .exit) .entries) ≡ name (now (self .entry) .entries) ⌝ }
-        ensures after { λ _. ⌜ now (now (self .exit) .entries) ≡ withdrawing (R·Record .layout) (now (now (self .entry) .entries)) number .left ⌝ }
-        ensures moved { λ r. ⌜ Moved (now (now (self .entry) .entries)) number r (now (now (self .exit) .entries)) ⌝ }
+        ensures answer { λ r. ⌜ r ≡ withdrawing (R·Record .layout) (now (now (self .entry) .0)) number .answer ⌝ }
+        ensures same_lender { λ _. ⌜ name (now (self .exit) .0) ≡ name (now (self .entry) .0) ⌝ }
+        ensures after { λ _. ⌜ now (now (self .exit) .0) ≡ withdrawing (R·Record .layout) (now (now (self .entry) .0)) number .left ⌝ }
+        ensures moved { λ r. ⌜ Moved (now (now (self .entry) .0)) number r (now (now (self .exit) .0)) ⌝ }
     {
-        withdraw_in(self.entries, number)
+        withdraw_in(self.0, number)
     }
 }
 

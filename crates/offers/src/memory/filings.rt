@@ -34,21 +34,11 @@ impl Offers {
         ensures kept { λ r. ⌜ Kept (held (now (self .entry))) r (held (now (self .exit))) ⌝ }
     {
         match offer {
-            Offer::Package(new) => Register {
-                entries: &mut self.packages,
-            }.file(number, new),
-            Offer::Band(new) => Register {
-                entries: &mut self.bands,
-            }.file(number, new),
-            Offer::Pair(new) => Register {
-                entries: &mut self.pairs,
-            }.file(number, new),
-            Offer::Exclusion(new) => Register {
-                entries: &mut self.exclusions,
-            }.file(number, new),
-            Offer::Limit(new) => Register {
-                entries: &mut self.limits,
-            }.file(number, new),
+            Offer::Package(new) => Register(&mut self.packages).file(number, new),
+            Offer::Band(new) => Register(&mut self.bands).file(number, new),
+            Offer::Pair(new) => Register(&mut self.pairs).file(number, new),
+            Offer::Exclusion(new) => Register(&mut self.exclusions).file(number, new),
+            Offer::Limit(new) => Register(&mut self.limits).file(number, new),
         }
     }
 
@@ -59,21 +49,11 @@ impl Offers {
         ensures kept { λ r. ⌜ Kept (held (now (self .entry))) r (held (now (self .exit))) ⌝ }
     {
         match kind {
-            Kind::Package => Register {
-                entries: &mut self.packages,
-            }.withdraw(number),
-            Kind::Band => Register {
-                entries: &mut self.bands,
-            }.withdraw(number),
-            Kind::Pair => Register {
-                entries: &mut self.pairs,
-            }.withdraw(number),
-            Kind::Exclusion => Register {
-                entries: &mut self.exclusions,
-            }.withdraw(number),
-            Kind::Limit => Register {
-                entries: &mut self.limits,
-            }.withdraw(number),
+            Kind::Package => Register(&mut self.packages).withdraw(number),
+            Kind::Band => Register(&mut self.bands).withdraw(number),
+            Kind::Pair => Register(&mut self.pairs).withdraw(number),
+            Kind::Exclusion => Register(&mut self.exclusions).withdraw(number),
+            Kind::Limit => Register(&mut self.limits).withdraw(number),
         }
     }
 }

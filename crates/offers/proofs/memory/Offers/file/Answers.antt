@@ -13,7 +13,7 @@ returns-in-Package c =
     let all = held (c .args .self .now) in
     let n = c .args .number in
     let answer = subst (λ (x : Offer). c .file .result ≡ file-offer all n x .answer) (sym (c .in-Package .is)) (c .file .ensures .answer) in
-    let after = subst (λ (x : Offer). with-entries all kind.Package (c .file .last .self .entries .now) ≡ file-offer all n x .left) (sym (c .in-Package .is)) (ap (with-entries all kind.Package) (c .file .ensures .after)) in
+    let after = subst (λ (x : Offer). with-entries all kind.Package (c .file .last .self .0 .now) ≡ file-offer all n x .left) (sym (c .in-Package .is)) (ap (with-entries all kind.Package) (c .file .ensures .after)) in
     record { answer = answer; after = after; kept = filed-kept all n (c .args .offer) _ _ answer after }
 
 pub returns-in-Band : need.returns-in-Band
@@ -21,7 +21,7 @@ returns-in-Band c =
     let all = held (c .args .self .now) in
     let n = c .args .number in
     let answer = subst (λ (x : Offer). c .file-in-Band .result ≡ file-offer all n x .answer) (sym (c .in-Band .is)) (c .file-in-Band .ensures .answer) in
-    let after = subst (λ (x : Offer). with-entries all kind.Band (c .file-in-Band .last .self .entries .now) ≡ file-offer all n x .left) (sym (c .in-Band .is)) (ap (with-entries all kind.Band) (c .file-in-Band .ensures .after)) in
+    let after = subst (λ (x : Offer). with-entries all kind.Band (c .file-in-Band .last .self .0 .now) ≡ file-offer all n x .left) (sym (c .in-Band .is)) (ap (with-entries all kind.Band) (c .file-in-Band .ensures .after)) in
     record { answer = answer; after = after; kept = filed-kept all n (c .args .offer) _ _ answer after }
 
 pub returns-in-Pair : need.returns-in-Pair
@@ -29,7 +29,7 @@ returns-in-Pair c =
     let all = held (c .args .self .now) in
     let n = c .args .number in
     let answer = subst (λ (x : Offer). c .file-in-Pair .result ≡ file-offer all n x .answer) (sym (c .in-Pair .is)) (c .file-in-Pair .ensures .answer) in
-    let after = subst (λ (x : Offer). with-entries all kind.Pair (c .file-in-Pair .last .self .entries .now) ≡ file-offer all n x .left) (sym (c .in-Pair .is)) (ap (with-entries all kind.Pair) (c .file-in-Pair .ensures .after)) in
+    let after = subst (λ (x : Offer). with-entries all kind.Pair (c .file-in-Pair .last .self .0 .now) ≡ file-offer all n x .left) (sym (c .in-Pair .is)) (ap (with-entries all kind.Pair) (c .file-in-Pair .ensures .after)) in
     record { answer = answer; after = after; kept = filed-kept all n (c .args .offer) _ _ answer after }
 
 pub returns-in-Exclusion : need.returns-in-Exclusion
@@ -37,7 +37,7 @@ returns-in-Exclusion c =
     let all = held (c .args .self .now) in
     let n = c .args .number in
     let answer = subst (λ (x : Offer). c .file-in-Exclusion .result ≡ file-offer all n x .answer) (sym (c .in-Exclusion .is)) (c .file-in-Exclusion .ensures .answer) in
-    let after = subst (λ (x : Offer). with-entries all kind.Exclusion (c .file-in-Exclusion .last .self .entries .now) ≡ file-offer all n x .left) (sym (c .in-Exclusion .is)) (ap (with-entries all kind.Exclusion) (c .file-in-Exclusion .ensures .after)) in
+    let after = subst (λ (x : Offer). with-entries all kind.Exclusion (c .file-in-Exclusion .last .self .0 .now) ≡ file-offer all n x .left) (sym (c .in-Exclusion .is)) (ap (with-entries all kind.Exclusion) (c .file-in-Exclusion .ensures .after)) in
     record { answer = answer; after = after; kept = filed-kept all n (c .args .offer) _ _ answer after }
 
 pub returns-in-Limit : need.returns-in-Limit
@@ -45,7 +45,7 @@ returns-in-Limit c =
     let all = held (c .args .self .now) in
     let n = c .args .number in
     let answer = subst (λ (x : Offer). c .file-in-Limit .result ≡ file-offer all n x .answer) (sym (c .in-Limit .is)) (c .file-in-Limit .ensures .answer) in
-    let after = subst (λ (x : Offer). with-entries all kind.Limit (c .file-in-Limit .last .self .entries .now) ≡ file-offer all n x .left) (sym (c .in-Limit .is)) (ap (with-entries all kind.Limit) (c .file-in-Limit .ensures .after)) in
+    let after = subst (λ (x : Offer). with-entries all kind.Limit (c .file-in-Limit .last .self .0 .now) ≡ file-offer all n x .left) (sym (c .in-Limit .is)) (ap (with-entries all kind.Limit) (c .file-in-Limit .ensures .after)) in
     record { answer = answer; after = after; kept = filed-kept all n (c .args .offer) _ _ answer after }
 
 pub ghost-self : need.ghost-self

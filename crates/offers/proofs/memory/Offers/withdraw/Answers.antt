@@ -13,7 +13,7 @@ returns-in-Package c =
     let all = held (c .args .self .now) in
     let n = c .args .number in
     let answer = subst (λ (k : Kind). c .withdraw .result ≡ withdraw-offer all k n .answer) (sym (c .in-Package .is)) (c .withdraw .ensures .answer) in
-    let after = subst (λ (k : Kind). with-entries all kind.Package (c .withdraw .last .self .entries .now) ≡ withdraw-offer all k n .left) (sym (c .in-Package .is)) (ap (with-entries all kind.Package) (c .withdraw .ensures .after)) in
+    let after = subst (λ (k : Kind). with-entries all kind.Package (c .withdraw .last .self .0 .now) ≡ withdraw-offer all k n .left) (sym (c .in-Package .is)) (ap (with-entries all kind.Package) (c .withdraw .ensures .after)) in
     record { answer = answer; after = after; kept = withdrawn-kept all (c .args .kind) n _ _ answer after }
 
 pub returns-in-Band : need.returns-in-Band
@@ -21,7 +21,7 @@ returns-in-Band c =
     let all = held (c .args .self .now) in
     let n = c .args .number in
     let answer = subst (λ (k : Kind). c .withdraw-in-Band .result ≡ withdraw-offer all k n .answer) (sym (c .in-Band .is)) (c .withdraw-in-Band .ensures .answer) in
-    let after = subst (λ (k : Kind). with-entries all kind.Band (c .withdraw-in-Band .last .self .entries .now) ≡ withdraw-offer all k n .left) (sym (c .in-Band .is)) (ap (with-entries all kind.Band) (c .withdraw-in-Band .ensures .after)) in
+    let after = subst (λ (k : Kind). with-entries all kind.Band (c .withdraw-in-Band .last .self .0 .now) ≡ withdraw-offer all k n .left) (sym (c .in-Band .is)) (ap (with-entries all kind.Band) (c .withdraw-in-Band .ensures .after)) in
     record { answer = answer; after = after; kept = withdrawn-kept all (c .args .kind) n _ _ answer after }
 
 pub returns-in-Pair : need.returns-in-Pair
@@ -29,7 +29,7 @@ returns-in-Pair c =
     let all = held (c .args .self .now) in
     let n = c .args .number in
     let answer = subst (λ (k : Kind). c .withdraw-in-Pair .result ≡ withdraw-offer all k n .answer) (sym (c .in-Pair .is)) (c .withdraw-in-Pair .ensures .answer) in
-    let after = subst (λ (k : Kind). with-entries all kind.Pair (c .withdraw-in-Pair .last .self .entries .now) ≡ withdraw-offer all k n .left) (sym (c .in-Pair .is)) (ap (with-entries all kind.Pair) (c .withdraw-in-Pair .ensures .after)) in
+    let after = subst (λ (k : Kind). with-entries all kind.Pair (c .withdraw-in-Pair .last .self .0 .now) ≡ withdraw-offer all k n .left) (sym (c .in-Pair .is)) (ap (with-entries all kind.Pair) (c .withdraw-in-Pair .ensures .after)) in
     record { answer = answer; after = after; kept = withdrawn-kept all (c .args .kind) n _ _ answer after }
 
 pub returns-in-Exclusion : need.returns-in-Exclusion
@@ -37,7 +37,7 @@ returns-in-Exclusion c =
     let all = held (c .args .self .now) in
     let n = c .args .number in
     let answer = subst (λ (k : Kind). c .withdraw-in-Exclusion .result ≡ withdraw-offer all k n .answer) (sym (c .in-Exclusion .is)) (c .withdraw-in-Exclusion .ensures .answer) in
-    let after = subst (λ (k : Kind). with-entries all kind.Exclusion (c .withdraw-in-Exclusion .last .self .entries .now) ≡ withdraw-offer all k n .left) (sym (c .in-Exclusion .is)) (ap (with-entries all kind.Exclusion) (c .withdraw-in-Exclusion .ensures .after)) in
+    let after = subst (λ (k : Kind). with-entries all kind.Exclusion (c .withdraw-in-Exclusion .last .self .0 .now) ≡ withdraw-offer all k n .left) (sym (c .in-Exclusion .is)) (ap (with-entries all kind.Exclusion) (c .withdraw-in-Exclusion .ensures .after)) in
     record { answer = answer; after = after; kept = withdrawn-kept all (c .args .kind) n _ _ answer after }
 
 pub returns-in-Limit : need.returns-in-Limit
@@ -45,7 +45,7 @@ returns-in-Limit c =
     let all = held (c .args .self .now) in
     let n = c .args .number in
     let answer = subst (λ (k : Kind). c .withdraw-in-Limit .result ≡ withdraw-offer all k n .answer) (sym (c .in-Limit .is)) (c .withdraw-in-Limit .ensures .answer) in
-    let after = subst (λ (k : Kind). with-entries all kind.Limit (c .withdraw-in-Limit .last .self .entries .now) ≡ withdraw-offer all k n .left) (sym (c .in-Limit .is)) (ap (with-entries all kind.Limit) (c .withdraw-in-Limit .ensures .after)) in
+    let after = subst (λ (k : Kind). with-entries all kind.Limit (c .withdraw-in-Limit .last .self .0 .now) ≡ withdraw-offer all k n .left) (sym (c .in-Limit .is)) (ap (with-entries all kind.Limit) (c .withdraw-in-Limit .ensures .after)) in
     record { answer = answer; after = after; kept = withdrawn-kept all (c .args .kind) n _ _ answer after }
 
 pub ghost-self : need.ghost-self
