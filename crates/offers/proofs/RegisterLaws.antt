@@ -131,7 +131,7 @@ module _ {R : Type 0} (k : Layout R) (es : List (Entry R)) (n : ℕ) where
   withdrawing-fair = cond-both (numbered k es n) _ _ Fair (λ _. over-withdrawn-fair (entry es n)) (λ _. outside-fair)
 
 -- a register with one entry set is in range if that entry's record is
-set-in-range : {R : Type 0} (k : Layout R) (es : List (Entry R)) (at : ℕ) (e : Entry R) → InRange k es → held-fault k e ≡ 0 → InRange k (set es at e)
+pub set-in-range : {R : Type 0} (k : Layout R) (es : List (Entry R)) (at : ℕ) (e : Entry R) → InRange k es → held-fault k e ≡ 0 → InRange k (set es at e)
 set-in-range k es at e ok new i = ⊎-elim here there (cases-eq i at)
   where
     inside-or-past : i ≡ at → (at < length es) ⊎ (length es ≤ at) → held-fault k (getD (set es at e) i Vacant) ≡ 0

@@ -42,7 +42,7 @@ impl<R: Record> Register<'_, R> {
 }
 
 // Whether the kind has this offer number and the register is that long.
-fn has_entry<R: Record>(entries: &[Entry<R>], number: u8) -> bool
+pub fn has_entry<R: Record>(entries: &[Entry<R>], number: u8) -> bool
     ensures { λ r. ⌜ r ≡ numbered (R·Record .layout) (now (entries .entry)) number ⌝ }
 {
     1 <= number && number <= R::number_count() && number as usize <= entries.len()

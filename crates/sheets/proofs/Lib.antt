@@ -1,0 +1,4 @@
+pub mod Splits
+pub mod Turns
+pub mod Contents
+pub mod Pieces

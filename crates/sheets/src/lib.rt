@@ -1,0 +1,3 @@
+// Sheets: how one round's offers reach another, read field by field.
+mod fields;
+pub mod reading;
