@@ -1,0 +1,9 @@
+pub mod Fits
+pub mod Held
+pub mod Copies
+pub mod Rows
+pub mod Totals
+pub mod Tallying
+pub mod Addings
+pub mod Takings
+pub mod Fillings

@@ -1,0 +1,33 @@
+-- `dates_kept`: a hundred times a supply and a percentage of a sale have room.
+use native.Mathlib.Omega.{arith}
+use native.Mathlib.Nat.{mul-le-mul}
+use Rattle.clearing.proofs.Fits.{each-most}
+use Rattle.clearing.proofs.lawful.dates_kept.Needs as need
+
+pub mul-taken : need.mul-taken
+mul-taken c = omega (arith, each-most 400000000 (c .args .taken .now .before) (c .loop-market .market) (c .pre .before))
+
+pub mul-least : need.mul-least
+mul-least c =
+    omega (arith, mul-le-mul (each-most 100 (c .percentages-least .result) 0 (c .percentages-least .ensures)) (each-most 6400000000 (c .args .sales .now .sold) (c .loop-market .market) (c .pre .sold)))
+
+pub mul-taken-in-loop-market : need.mul-taken-in-loop-market
+mul-taken-in-loop-market c = omega (arith, each-most 400000000 (c .args .taken .now .after) (c .loop-market .market) (c .pre .after))
+
+pub mul-least-in-loop-market : need.mul-least-in-loop-market
+mul-least-in-loop-market c =
+    omega (arith, mul-le-mul (each-most 100 (c .percentages-least .result) 1 (c .percentages-least .ensures)) (each-most 6400000000 (c .args .sales .now .sold) (c .loop-market .market) (c .pre .sold)))
+
+pub mul-taken-2 : need.mul-taken-2
+mul-taken-2 c = omega (arith, each-most 400000000 (c .args .taken .now .before) 4 (c .pre .before))
+
+pub mul-least-2 : need.mul-least-2
+mul-least-2 c =
+    omega (arith, mul-le-mul (each-most 100 (c .percentages-least .result) 2 (c .percentages-least .ensures)) (each-most 6400000000 (c .args .sales .now .sold) 4 (c .pre .sold)))
+
+pub mul-result : need.mul-result
+mul-result c = omega (arith, each-most 400000000 (c .args .taken .now .after) 4 (c .pre .after))
+
+pub mul-result-then-taken-market-3 : need.mul-result-then-taken-market-3
+mul-result-then-taken-market-3 c =
+    omega (arith, mul-le-mul (each-most 100 (c .percentages-least .result) 3 (c .percentages-least .ensures)) (each-most 6400000000 (c .args .sales .now .sold) 4 (c .pre .sold)))

@@ -1,0 +1,4 @@
+pub mod Ranges
+pub mod Choices
+pub mod Tallies
+pub mod Sales
