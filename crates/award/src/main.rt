@@ -12,15 +12,19 @@ use std::io::Read;
 // The most bytes that are read.
 const MOST: usize = 4096;
 
-// Says on standard error how far a search is.
+// Says on standard error how far a search is, at every so many notes.
 #[derive(Drop)]
 struct Meter<'a> {
     rt: &'a LibcRuntime,
+    notes: u8,
 }
+
+const NOTES: u8 = 16;
 
 impl Progress for Meter<'_> as MeterProgress {
     fn note(&mut self, settled: u64, choices: u64, surplus: i64) {
-        if settled < choices {
+        self.notes = self.notes.wrapping_add(1) % NOTES;
+        if self.notes == 0 {
             let _ = eprintln!(self.rt, "settled {settled} of {choices}, surplus {surplus}");
         }
     }
@@ -47,7 +51,7 @@ fn read_all(rt: &LibcRuntime, buffer: &mut [u8; MOST]) -> io::Result<usize>
 fn main(rt: LibcRuntime) -> Result<(), AnyError> {
     let mut buffer = [0u8; MOST];
     let length = read_all(&rt, &mut buffer)?;
-    let mut meter = Meter { rt: &rt };
+    let mut meter = Meter { rt: &rt, notes: 0 };
     match clear_sheet(rt.alloc(), &buffer[0..length], &mut meter) {
         Ok(report) => {
             rt.print(report)?;

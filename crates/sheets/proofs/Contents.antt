@@ -44,7 +44,7 @@ module _ {R : Type 0} (k : Layout R) (law : Lawful k) (mine r : R) (fine : fault
   agrees-withdrawn e is ok = rw is (by-bytes (rw is at ok))
 
 -- what is joined from records in range is in range
-joined-in-range : {R : Type 0} (k : Layout R) (e : Entry R) (withdrawn : Bool) (r : R) → held-fault k e ≡ 0 → fault-of k r ≡ 0 → held-fault k (joined e withdrawn r) ≡ 0
+pub joined-in-range : {R : Type 0} (k : Layout R) (e : Entry R) (withdrawn : Bool) (r : R) → held-fault k e ≡ 0 → fault-of k r ≡ 0 → held-fault k (joined e withdrawn r) ≡ 0
 joined-in-range k Vacant true r ok fine = fine
 joined-in-range k Vacant false r ok fine = fine
 joined-in-range k (Open mine) true r ok fine = ok

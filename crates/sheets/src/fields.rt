@@ -40,9 +40,9 @@ pub struct Field<'a> {
 pub const HEADER: usize = 3;
 
 // The status byte of an open entry, and of a withdrawn one.
-const OPEN: u8 = 1;
+pub const OPEN: u8 = 1;
 
-const WITHDRAWN: u8 = 2;
+pub const WITHDRAWN: u8 = 2;
 
 // A refusal of a field that starts at `byte`.
 pub fn refusal(code: Code, tag: u8, number: u8, field: u8, byte: usize) -> Refusal
@@ -91,7 +91,7 @@ pub fn tag_of(kind: Kind) -> u8
 }
 
 // The bytes of a content: offer number, status and record.
-fn content_bytes<R: Record>() -> usize
+pub fn content_bytes<R: Record>() -> usize
     ensures { λ r. ⌜ r ≡ content-size (R·Record .layout) ⌝ }
 {
     R::record_length() as usize + 2

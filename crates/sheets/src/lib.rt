@@ -1,3 +1,4 @@
-// Sheets: how one round's offers reach another, read field by field.
+// Sheets: how one round's offers reach another, written and read field by field.
 mod fields;
 pub mod reading;
+pub mod writing;

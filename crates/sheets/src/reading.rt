@@ -3,6 +3,7 @@ ghost use mathlib.Core.Path.{_≡_};
 ghost use lib.ListN.{length};
 ghost use Rattle.offers.specs.Memory.{held, layout-of};
 ghost use Rattle.sheets.specs.Fields.{content-size};
+ghost use Rattle.sheets.specs.Laws.{CaughtUp};
 ghost use Rattle.sheets.specs.Reading.{take-piece, catching-up};
 use crate::fields::Field;
 use crate::fields::HEADER;
@@ -23,6 +24,7 @@ use offers::refusals::Refusal;
 pub fn catch_up(offers: &mut Offers, sheet: &[u8]) -> Result<(), Refusal>
     ensures answer { λ r. ⌜ r ≡ catching-up (held (now (offers .entry))) (now (sheet .entry)) .answer ⌝ }
     ensures after { λ _. ⌜ held (now (offers .exit)) ≡ catching-up (held (now (offers .entry))) (now (sheet .entry)) .left ⌝ }
+    ensures caught_up { λ r. ⌜ CaughtUp (held (now (offers .entry))) (now (sheet .entry)) r (held (now (offers .exit))) ⌝ }
 {
     let mut copy = *offers;
     let mut last = Mark {
