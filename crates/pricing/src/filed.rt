@@ -14,7 +14,9 @@ pub impl PriceRule for Filed as FiledRule {
 
     fn price(&mut self, package: &Package) -> Result<i64, Fault> {
         if package.price > 20_000_000_000 {
-            return Err(Fault { depth: 1 });
+            return Err(Fault {
+                depth: self.depth(),
+            });
         }
         Ok(package.price as i64)
     }

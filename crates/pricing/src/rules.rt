@@ -4,7 +4,7 @@ ghost use mathlib.Core.Path.{_≡_};
 ghost use lib.IntN.{ℤ};
 ghost use Rattle.std.specs.declared.result.Result.{Result as Answer};
 ghost use Rattle.offers.specs.declared.records.Package.{Package as Rated};
-ghost use Rattle.pricing.specs.Prices.{Bounded};
+ghost use Rattle.pricing.specs.Prices.{Bounded, checked as checked-price};
 ghost use Rattle.pricing.specs.declared.rules.Fault.{Fault as Raised};
 use offers::records::Package;
 
@@ -31,4 +31,14 @@ pub trait PriceRule {
     // How far up the stack the rule stands, the lowest being 1; a byte that wraps.
     fn depth(&self) -> u8
         ensures { λ r. ⌜ r ≡ level (now (self .entry)) ⌝ };
+}
+
+// A price that the rule at some depth came to, or its fault where that lies outside.
+pub fn checked(depth: u8, price: i64) -> Result<i64, Fault>
+    ensures { λ r. ⌜ r ≡ checked-price depth price ⌝ }
+{
+    if price < -20_000_000_000 || price > 20_000_000_000 {
+        return Err(Fault { depth });
+    }
+    Ok(price)
 }
