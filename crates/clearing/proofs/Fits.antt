@@ -179,6 +179,7 @@ pair-ranges p e =
 pub record ExclusionRanges (e : Exclusion) : Type 0 where
   pub group-least : 1 ≤ e .group
   pub group : e .group ≤ 16
+  pub member-least : 1 ≤ e .member
   pub member : e .member ≤ 40
 
 -- so has an exclusion
@@ -188,6 +189,7 @@ exclusion-ranges x e =
     record {
       group-least = within-least 1 16 _ (ok 0);
       group = within-most 1 16 _ (ok 0);
+      member-least = within-least 1 40 _ (ok 1);
       member = within-most 1 40 _ (ok 1);
     }
 
@@ -232,11 +234,11 @@ pub price-from : (price : ℤ) → least ≤ℤ price → price ≤ℤ greatest 
 price-from price low high = and-from (leZ least price) (leZ price greatest) (grind (arith, ints)) (grind (arith, ints))
 
 -- a price in range has room in 64 bits, and so is stored as it is
-pub price-stored : (price : ℤ) → price-fits price ≡ true → price-fits (toZ w64 (ofZ w64 price)) ≡ true
+pub price-stored : (price : ℤ) → price-fits price ≡ true → toZ w64 (ofZ w64 price) ≡ price
 price-stored price e =
     let between = price-between price e in
     let room : SFits w64 price = omega (arith, ints, between .0, between .1) in
-    rw (toZ-ofZ w64 price room) e
+    toZ-ofZ w64 price room
 
 -- a package that fits has all of these
 pub priced-ranges : (p : PricedPackage) → package-fits p ≡ true → PricedRanges p

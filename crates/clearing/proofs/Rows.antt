@@ -17,6 +17,12 @@ pub length-row : {X : Type 0} (f : ℕ → X) (n count : ℕ) → length (row f 
 length-row f n zero = refl
 length-row f n (suc count) = ap suc (length-row f (n + 1) count)
 
+-- what stands at a place of a row
+pub getD-row : {X : Type 0} (f : ℕ → X) (n count i : ℕ) (d : X) → i < count → getD (row f n count) i d ≡ f (n + i)
+getD-row f n zero i d h = absurd (omega arith)
+getD-row f n (suc count) zero d h = ap f (sym (add-zero n))
+getD-row f n (suc count) (suc i) d h = getD-row f (n + 1) count i d (omega arith) ∙ ap f (omega arith)
+
 -- a row depends on the function from its first number on
 pub row-same : {X : Type 0} (f g : ℕ → X) (n count : ℕ) → ((m : ℕ) → n ≤ m → f m ≡ g m) → row f n count ≡ row g n count
 row-same f g n zero same = refl

@@ -2,3 +2,8 @@ pub mod Ranges
 pub mod Choices
 pub mod Tallies
 pub mod Sales
+pub mod Bands
+pub mod Lawful
+pub mod Filling
+pub mod Kept
+pub mod Closing

@@ -1,5 +1,6 @@
 -- How a supply fills the bands. Assumes nothing.
-use mathlib.Core.List.{List}
+use mathlib.Core.List.{List, [], _∷_}
+use mathlib.Core.Bool.{cond}
 use Prim.Native.Nat.{ℕ, min, _-_, _*_}
 use lib.Dec.{eqb}
 use lib.ListN.{getD}
@@ -22,3 +23,8 @@ income bands supply = total (λ b. filled supply b * b .«record» .price) bands
 
 abbrev pub sales-of : List OpenBand → List ℕ → Sales
 sales-of bands supply = record { sold = row (sold-in bands supply) 1 5; income = income bands supply }
+
+-- what the band of an offer number is sold, 0 where it is not open
+abbrev pub sale-of : List OpenBand → List ℕ → ℕ → ℕ
+sale-of [] supply n = 0
+sale-of (b ∷ bs) supply n = cond (eqb (b .number) n) (filled supply b) (sale-of bs supply n)

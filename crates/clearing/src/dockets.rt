@@ -4,6 +4,7 @@ ghost use Rattle.std.specs.Of.Vec.{vec-len, vec-cap, vec-items};
 ghost use mathlib.Core.Path.{_≡_};
 ghost use mathlib.Core.Bool.{true};
 ghost use Rattle.offers.specs.Tables.{pair-layout, exclusion-layout, limit-layout};
+ghost use Rattle.clearing.specs.Bands.{rising, aheads, true-aheads};
 ghost use Rattle.clearing.specs.Ranges.{each, fits, package-fits, band-fits};
 use offers::records::Band;
 use offers::records::Exclusion;
@@ -46,6 +47,8 @@ pub struct Docket {
     ghost room_for_exclusions: { 64 ≤ vec-cap exclusions },
     ghost room_for_limits: { 32 ≤ vec-cap limits },
     ghost packages_fit: { each package-fits (vec-items packages) ≡ true },
+    ghost bands_rise: { rising (vec-items bands) ≡ true },
+    ghost bands_ahead: { aheads (vec-items bands) ≡ true-aheads (vec-items bands) },
     ghost bands_fit: { each band-fits (vec-items bands) ≡ true },
     ghost pairs_fit: { each (fits pair-layout) (vec-items pairs) ≡ true },
     ghost exclusions_fit: { each (fits exclusion-layout) (vec-items exclusions) ≡ true },

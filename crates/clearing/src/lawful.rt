@@ -1,8 +1,18 @@
 // Whether a choice keeps the rules.
 ghost use mathlib.Core.Path.{_≡_};
-ghost use mathlib.Core.Bool.{true};
-ghost use lib.Dec.{leb};
+ghost use mathlib.Core.Bool.{true, cond};
+ghost use lib.Dec.{leb, eqb};
+ghost use lib.ListN.{getD};
 ghost use Rattle.offers.specs.Tables.{limit-layout};
+ghost use Rattle.std.specs.Of.Vec.{vec-items};
+ghost use Rattle.std.specs.Orderings.{Decides};
+ghost use Rattle.std.specs.declared.option.Option.the-variants.{Some, None};
+ghost use mathlib.Core.List.{List};
+ghost use Prim.Native.Nat.{ℕ, _-_};
+ghost use Rattle.clearing.specs.Filling.{BestFilled};
+ghost use Rattle.clearing.specs.Kept.{PairsKept, ExclusionsKept, ZonesKept, DatesKept};
+ghost use Rattle.clearing.specs.Lawful.{view, Lawful, filled-sales, surplus, percentage};
+ghost use Rattle.clearing.specs.Tallies.{row};
 ghost use Rattle.clearing.specs.Ranges.{each, fits};
 use crate::dockets::Docket;
 use crate::sales::Sales;
@@ -19,7 +29,9 @@ const EXPORT: u8 = 2;
 const PERCENTAGE: u8 = 3;
 
 // Whether each taken package that needs another has it among those that `within` has.
-pub fn pairs_kept(docket: &Docket, taken: &Tally, within: &Tally) -> bool {
+pub fn pairs_kept(docket: &Docket, taken: &Tally, within: &Tally) -> bool
+    ensures { λ r. ⌜ Decides r (PairsKept (vec-items (now (docket .entry) .pairs)) (now (taken .entry) .takes) (now (within .entry) .takes)) ⌝ }
+{
     for pair in docket.pairs.iter() {
         if taken.takes[pair.dependent as usize] && !within.takes[pair.needed as usize] {
             return false;
@@ -29,7 +41,9 @@ pub fn pairs_kept(docket: &Docket, taken: &Tally, within: &Tally) -> bool {
 }
 
 // Whether no two different taken packages are in one group.
-pub fn exclusions_kept(docket: &Docket, taken: &Tally) -> bool {
+pub fn exclusions_kept(docket: &Docket, taken: &Tally) -> bool
+    ensures { λ r. ⌜ Decides r (ExclusionsKept (vec-items (now (docket .entry) .exclusions)) (now (taken .entry) .takes)) ⌝ }
+{
     let mut first = [0u8; 16];
     for exclusion in docket.exclusions.iter() {
         let group = exclusion.group as usize - 1;
@@ -44,7 +58,9 @@ pub fn exclusions_kept(docket: &Docket, taken: &Tally) -> bool {
 }
 
 // Whether the taken packages without connection priority keep the limits of their zones.
-pub fn zones_kept(docket: &Docket, taken: &Tally) -> bool {
+pub fn zones_kept(docket: &Docket, taken: &Tally) -> bool
+    ensures { λ r. ⌜ Decides r (ZonesKept (vec-items (now (docket .entry) .limits)) (now (taken .entry) .nameplate) (now (taken .entry) .export)) ⌝ }
+{
     for limit in docket.limits.iter() {
         if zone_load(limit, taken) > limit.amount as u64 {
             return false;
@@ -56,6 +72,7 @@ pub fn zones_kept(docket: &Docket, taken: &Tally) -> bool {
 // What counts against a limit of a zone; nothing counts against a percentage here.
 fn zone_load(limit: &Limit, taken: &Tally) -> u64
     requires { ⌜ fits limit-layout (now limit) ≡ true ⌝ }
+    ensures { λ r. ⌜ r ≡ cond (eqb (now (limit .entry) .sort) 1) (getD (now (taken .entry) .nameplate) (now (limit .entry) .zone - 1) 0) (cond (eqb (now (limit .entry) .sort) 2) (getD (now (taken .entry) .export) (now (limit .entry) .zone - 1) 0) 0) ⌝ }
 {
     match limit.sort {
         INTERCONNECTION => taken.nameplate[limit.zone as usize - 1],
@@ -66,7 +83,8 @@ fn zone_load(limit: &Limit, taken: &Tally) -> u64
 
 // The percentages that bind: power before and after, certificates before and after; the least of each, or 100.
 fn percentages(docket: &Docket) -> [u64; 4]
-    ensures { λ r. ⌜ each (λ n. leb n 100) r ≡ true ⌝ }
+    ensures value { λ r. ⌜ r ≡ row (percentage (vec-items (now (docket .entry) .limits))) 1 4 ⌝ }
+    ensures bound { λ r. ⌜ each (λ n. leb n 100) r ≡ true ⌝ }
 {
     let mut least = [100u64; 4];
     for limit in docket.limits.iter() {
@@ -83,6 +101,7 @@ fn dates_kept(docket: &Docket, taken: &Tally, sales: &Sales) -> bool
     requires before { ⌜ each (λ n. leb n 400000000) (now taken .before) ≡ true ⌝ }
     requires after { ⌜ each (λ n. leb n 400000000) (now taken .after) ≡ true ⌝ }
     requires sold { ⌜ each (λ n. leb n 6400000000) (now sales .sold) ≡ true ⌝ }
+    ensures { λ r. ⌜ Decides r (DatesKept (vec-items (now (docket .entry) .limits)) (now (taken .entry)) (now (sales .entry) .sold)) ⌝ }
 {
     let least = percentages(docket);
     for market in 0..3 {
@@ -99,7 +118,10 @@ fn dates_kept(docket: &Docket, taken: &Tally, sales: &Sales) -> bool
 }
 
 // The surplus in pesos of a choice with filled sales, if it is lawful.
-pub fn worth(docket: &Docket, choice: u64) -> Option<i64> {
+pub fn worth(docket: &Docket, choice: u64) -> Option<i64>
+    ensures worth { λ r. ⌜ elim r [ Some s ↦ Lawful (view (now (docket .entry))) choice (filled-sales (view (now (docket .entry))) choice) × (s ≡ surplus (view (now (docket .entry))) choice (filled-sales (view (now (docket .entry))) choice)) | None ↦ ((sales : List ℕ) → Lawful (view (now (docket .entry))) choice sales → ⊥) ] ⌝ }
+    ensures best_filled { λ _. ⌜ BestFilled (view (now (docket .entry))) choice ⌝ }
+{
     let taken = Tally::of(docket, choice);
     let sales = sell(docket, &taken.supply);
     if pairs_kept(docket, &taken, &taken)

@@ -4,7 +4,8 @@ ghost use mathlib.Core.Bool.{true};
 ghost use lib.ListN.{length};
 ghost use Rattle.std.specs.Of.Vec.{vec-items};
 ghost use Rattle.clearing.specs.Ranges.{band-fits};
-ghost use Rattle.clearing.specs.Sales.{filled, sales-of};
+ghost use Rattle.clearing.specs.Tallies.{row};
+ghost use Rattle.clearing.specs.Sales.{filled, sale-of, sales-of};
 use crate::dockets::Docket;
 use crate::dockets::OpenBand;
 
@@ -41,7 +42,9 @@ pub fn sell(docket: &Docket, supply: &[u64; 5]) -> Sales
 }
 
 // What each band is sold by its offer number, number n at place n - 1; 0 for a number that is not open.
-pub fn sales_row(docket: &Docket, supply: &[u64; 5]) -> [u64; 64] {
+pub fn sales_row(docket: &Docket, supply: &[u64; 5]) -> [u64; 64]
+    ensures { λ r. ⌜ r ≡ row (sale-of (vec-items (now (docket .entry) .bands)) (now (supply .entry))) 1 64 ⌝ }
+{
     let mut row = [0u64; 64];
     for band in docket.bands.iter() {
         row[band.number as usize - 1] = sale(supply, band);

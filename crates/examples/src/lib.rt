@@ -1,6 +1,10 @@
-// What a round accepts, refuses and awards, shown by examples.
+// What a round accepts, refuses, prices and awards, shown by examples.
 #[cfg(test)]
 mod filing;
+#[cfg(test)]
+mod lawfulness;
+#[cfg(test)]
+mod prices;
 #[cfg(test)]
 mod ranges;
 #[cfg(test)]
