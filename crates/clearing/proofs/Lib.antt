@@ -9,7 +9,7 @@ pub mod Closings
 pub mod Tallying
 pub mod Addings
 pub mod Takings
-pub mod Fillings
+pub mod Sellings
 pub mod Tested
 pub mod Exclusions
 pub mod Percentages

@@ -29,7 +29,7 @@ use Rattle.clearing.specs.Tallies.{row, tally-of}
 use Rattle.clearing.proofs.Fits.{pair-ranges, exclusion-ranges, limit-ranges}
 use Rattle.clearing.proofs.Rows.{getD-row}
 use Rattle.clearing.proofs.Tallying.{Priced}
-use Rattle.clearing.proofs.Fillings.{Sold}
+use Rattle.clearing.proofs.Sellings.{Sold}
 
 -- what stands in a row at the place of a number that counts from 1
 row-at : (f : ℕ → ℕ) (count m : ℕ) → 1 ≤ m → m ≤ count → getD (row f 1 count) (m - 1) 0 ≡ f m

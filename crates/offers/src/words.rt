@@ -8,14 +8,14 @@ ghost use Rattle.std.specs.shelf.Digits.{number as value-of};
 ghost use Rattle.offers.specs.Fields.{high-first, within as is-within, first-false};
 
 // Whether a value is one of `least` to `most`.
-pub fn within(value: u64, least: u64, most: u64) -> bool
+pub(crate) fn within(value: u64, least: u64, most: u64) -> bool
     ensures { λ r. ⌜ r ≡ is-within least most value ⌝ }
 {
     least <= value && value <= most
 }
 
 // The field number of the first that is out of range, the first field being 2; 0 where all are in range.
-pub fn first_outside(in_range: &[bool]) -> u8
+pub(crate) fn first_outside(in_range: &[bool]) -> u8
     requires { ⌜ length (now «in_range») ≤ 12 ⌝ }
     ensures { λ r. ⌜ r ≡ first-false 2 (now («in_range» .entry)) ⌝ }
 {
@@ -30,7 +30,7 @@ pub fn first_outside(in_range: &[bool]) -> u8
 }
 
 // Writes a number's four bytes from `at` on.
-pub fn put_u32(out: &mut [u8], at: usize, value: u32)
+pub(crate) fn put_u32(out: &mut [u8], at: usize, value: u32)
     requires { ⌜ at + 4 ≤ length (now out) ⌝ }
     ensures front { λ _. ⌜ take (at + 4) (now (out .exit)) ≡ take at (now (out .entry)) ++ high-first 4 value ⌝ }
     ensures back { λ _. ⌜ drop (at + 4) (now (out .exit)) ≡ drop (at + 4) (now (out .entry)) ⌝ }
@@ -42,7 +42,7 @@ pub fn put_u32(out: &mut [u8], at: usize, value: u32)
 }
 
 // Writes a number's eight bytes from `at` on.
-pub fn put_u64(out: &mut [u8], at: usize, value: u64)
+pub(crate) fn put_u64(out: &mut [u8], at: usize, value: u64)
     requires { ⌜ at + 8 ≤ length (now out) ⌝ }
     ensures front { λ _. ⌜ take (at + 8) (now (out .exit)) ≡ take at (now (out .entry)) ++ high-first 8 value ⌝ }
     ensures back { λ _. ⌜ drop (at + 8) (now (out .exit)) ≡ drop (at + 8) (now (out .entry)) ⌝ }
@@ -54,7 +54,7 @@ pub fn put_u64(out: &mut [u8], at: usize, value: u64)
 }
 
 // Writes one byte at `at`.
-pub fn put_u8(out: &mut [u8], at: usize, value: u8)
+pub(crate) fn put_u8(out: &mut [u8], at: usize, value: u8)
     requires { ⌜ at + 1 ≤ length (now out) ⌝ }
     ensures front { λ _. ⌜ take (at + 1) (now (out .exit)) ≡ take at (now (out .entry)) ++ high-first 1 value ⌝ }
     ensures back { λ _. ⌜ drop (at + 1) (now (out .exit)) ≡ drop (at + 1) (now (out .entry)) ⌝ }
@@ -63,7 +63,7 @@ pub fn put_u8(out: &mut [u8], at: usize, value: u8)
 }
 
 // The number in four bytes from `at` on.
-pub fn u32_at(src: &[u8], at: usize) -> u32
+pub(crate) fn u32_at(src: &[u8], at: usize) -> u32
     requires { ⌜ at + 4 ≤ length (now src) ⌝ }
     ensures { λ r. ⌜ r ≡ value-of 256 (take 4 (drop at (now (src .entry)))) ⌝ }
 {
@@ -71,7 +71,7 @@ pub fn u32_at(src: &[u8], at: usize) -> u32
 }
 
 // The number in eight bytes from `at` on.
-pub fn u64_at(src: &[u8], at: usize) -> u64
+pub(crate) fn u64_at(src: &[u8], at: usize) -> u64
     requires { ⌜ at + 8 ≤ length (now src) ⌝ }
     ensures { λ r. ⌜ r ≡ value-of 256 (take 8 (drop at (now (src .entry)))) ⌝ }
 {
@@ -81,7 +81,7 @@ pub fn u64_at(src: &[u8], at: usize) -> u64
 }
 
 // The number in one byte at `at`.
-pub fn u8_at(src: &[u8], at: usize) -> u8
+pub(crate) fn u8_at(src: &[u8], at: usize) -> u8
     requires { ⌜ at + 1 ≤ length (now src) ⌝ }
     ensures { λ r. ⌜ r ≡ value-of 256 (take 1 (drop at (now (src .entry)))) ⌝ }
 {

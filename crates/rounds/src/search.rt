@@ -103,7 +103,7 @@ fn step<B: BoundingRule>(docket: &Docket, at: Position, rule: &mut B) -> Positio
 }
 
 // The choices of a docket.
-pub fn choices(docket: &Docket) -> u64
+pub(crate) fn choices(docket: &Docket) -> u64
     ensures value { λ r. ⌜ r ≡ 2 ^ vec-len (now (docket .entry) .packages) ⌝ }
     ensures bound { λ r. ⌜ r ≤ 2 ^ 40 ⌝ }
 {
@@ -111,7 +111,12 @@ pub fn choices(docket: &Docket) -> u64
 }
 
 // Makes the steps that it is given, or fewer if every choice is settled before.
-pub fn run<B: BoundingRule>(docket: &Docket, from: Position, rule: &mut B, steps: u32) -> Position
+pub(crate) fn run<B: BoundingRule>(
+    docket: &Docket,
+    from: Position,
+    rule: &mut B,
+    steps: u32,
+) -> Position
     requires { ⌜ 0 < steps ⌝ }
     ensures { λ r. ⌜ (from .settled < 2 ^ vec-len (now (docket .entry) .packages) → left r < left from) ⌝ }
 {

@@ -45,7 +45,7 @@ pub const OPEN: u8 = 1;
 pub const WITHDRAWN: u8 = 2;
 
 // A refusal of a field that starts at `byte`.
-pub fn refusal(code: Code, tag: u8, number: u8, field: u8, byte: usize) -> Refusal
+pub(crate) fn refusal(code: Code, tag: u8, number: u8, field: u8, byte: usize) -> Refusal
     ensures { λ r. ⌜ r ≡ refused-field code tag number field byte ⌝ }
 {
     Refusal {
@@ -59,7 +59,7 @@ pub fn refusal(code: Code, tag: u8, number: u8, field: u8, byte: usize) -> Refus
 }
 
 // The kind that a tag marks.
-pub fn kind_of(tag: u8) -> Option<Kind>
+pub(crate) fn kind_of(tag: u8) -> Option<Kind>
     ensures { λ r. ⌜ r ≡ kind-of-tag tag ⌝ }
 {
     if tag == PackageRecord::TAG {
@@ -78,7 +78,7 @@ pub fn kind_of(tag: u8) -> Option<Kind>
 }
 
 // The tag of a kind.
-pub fn tag_of(kind: Kind) -> u8
+pub(crate) fn tag_of(kind: Kind) -> u8
     ensures { λ r. ⌜ r ≡ layout-of kind .tag ⌝ }
 {
     match kind {
@@ -91,14 +91,14 @@ pub fn tag_of(kind: Kind) -> u8
 }
 
 // The bytes of a content: offer number, status and record.
-pub fn content_bytes<R: Record>() -> usize
+pub(crate) fn content_bytes<R: Record>() -> usize
     ensures { λ r. ⌜ r ≡ content-size (R·Record .layout) ⌝ }
 {
     R::record_length() as usize + 2
 }
 
 // The bytes of a content of a kind.
-pub fn content_length(kind: Kind) -> usize
+pub(crate) fn content_length(kind: Kind) -> usize
     ensures { λ r. ⌜ r ≡ content-size (layout-of kind) ⌝ }
 {
     match kind {
@@ -111,7 +111,7 @@ pub fn content_length(kind: Kind) -> usize
 }
 
 // Takes the header off the field that starts the sheet's rest.
-pub fn split_field(sheet: &[u8], byte: usize) -> Result<Field<'_>, Refusal>
+pub(crate) fn split_field(sheet: &[u8], byte: usize) -> Result<Field<'_>, Refusal>
     ensures { λ r. ⌜ elim r [ Ok f ↦ split-off (now (sheet .entry)) byte ≡ Ok (record { kind = f .kind; content = now (f .content); rest = now (f .rest) }) | Err e ↦ split-off (now (sheet .entry)) byte ≡ Err e ] ⌝ }
 {
     let [tag, high, low, body @ ..] = sheet else {
@@ -178,7 +178,7 @@ fn joined<R: Record>(held: Entry<R>, withdrawn: bool, record: R) -> Entry<R>
 }
 
 // Takes a field's content into the entries of its kind, and gives its offer number.
-pub fn take_content<R: Record>(
+pub(crate) fn take_content<R: Record>(
     entries: &mut [Entry<R>],
     last: Mark,
     content: &[u8],

@@ -12,7 +12,7 @@ use Rattle.clearing.specs.Filling.{InOrder}
 use Rattle.clearing.specs.Lawful.{view, Lawful, sold}
 use Rattle.clearing.proofs.Tallying.{Bounded, Priced}
 use Rattle.clearing.proofs.Takings.{taken-bounded, taken-priced}
-use Rattle.clearing.proofs.Fillings.{Sold, sold-in-all}
+use Rattle.clearing.proofs.Sellings.{Sold, sold-in-all}
 use Rattle.clearing.proofs.Filling.{best-filled, filled-within}
 use Rattle.clearing.proofs.Ruled.{Ruled, lawful-from, ruled-from, income-is, worth-stored}
 use Rattle.clearing.proofs.lawful.worth.Needs as need

@@ -4,7 +4,7 @@ use native.Mathlib.Omega.{arith}
 use Rattle.std.proofs.shelf.Lists.{take-all}
 use Rattle.clearing.specs.Sales.{sales-of}
 use Rattle.clearing.proofs.Held.{band-held}
-use Rattle.clearing.proofs.Fillings.{turn}
+use Rattle.clearing.proofs.Sellings.{turn}
 use Rattle.clearing.proofs.sales.sell.Needs as need
 
 pub loop-band-holds : need.loop-band-holds

@@ -2,7 +2,7 @@
 use mathlib.Core.Path.{sym, subst}
 use native.Mathlib.Omega.{arith}
 use Rattle.std.proofs.shelf.Signed.{ints}
-use Rattle.clearing.proofs.Fillings.{Sold, sold-in-all}
+use Rattle.clearing.proofs.Sellings.{Sold, sold-in-all}
 use Rattle.bounds.proofs.all_in.AllInRule.consult.Needs as need
 
 pub cast-result : need.cast-result
