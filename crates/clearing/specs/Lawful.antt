@@ -7,6 +7,8 @@ use lib.Dec.{eqb}
 use lib.IntN.{ℤ, pos, _-ℤ_}
 use lib.ListN.{length}
 use lib.Signed.{_≤ℤ_}
+use Rattle.std.specs.declared.option.Option.{Option}
+use Rattle.std.specs.declared.option.Option.the-variants.{Some, None}
 use Rattle.std.specs.shelf.Lists.{All}
 use Rattle.offers.specs.declared.records.Pair.{Pair}
 use Rattle.offers.specs.declared.records.Exclusion.{Exclusion}
@@ -96,6 +98,11 @@ surplus v choice sales = pos (paid (v .bands) sales) -ℤ cost (taken (v .packag
 -- the sales where none are named: the bands filled by falling price, equal prices by rising number
 abbrev pub filled-sales : View → ℕ → List ℕ
 filled-sales v choice = map (filled (row (λ m. supply m (taken (v .packages) choice)) 1 5)) (v .bands)
+
+-- what a choice is worth with filled sales; nothing is said only where no sales make it lawful
+abbrev pub Worth : View → ℕ → Option ℤ → Type 0
+Worth v choice (Some worth) = Lawful v choice (filled-sales v choice) × (worth ≡ surplus v choice (filled-sales v choice))
+Worth v choice None = (sales : List ℕ) → Lawful v choice sales → ⊥
 
 -- the choices of a docket are the numbers below this
 abbrev pub choices : View → ℕ

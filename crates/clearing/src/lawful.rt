@@ -6,12 +6,11 @@ ghost use lib.ListN.{getD};
 ghost use Rattle.offers.specs.Tables.{limit-layout};
 ghost use Rattle.std.specs.Of.Vec.{vec-items};
 ghost use Rattle.std.specs.Orderings.{Decides};
-ghost use Rattle.std.specs.declared.option.Option.the-variants.{Some, None};
 ghost use mathlib.Core.List.{List};
 ghost use Prim.Native.Nat.{ℕ, _-_};
 ghost use Rattle.clearing.specs.Filling.{BestFilled};
 ghost use Rattle.clearing.specs.Kept.{PairsKept, ExclusionsKept, ZonesKept, DatesKept};
-ghost use Rattle.clearing.specs.Lawful.{view, Lawful, filled-sales, surplus, percentage};
+ghost use Rattle.clearing.specs.Lawful.{view, Lawful, Worth, percentage};
 ghost use Rattle.clearing.specs.Tallies.{row};
 ghost use Rattle.clearing.specs.Ranges.{each, fits};
 use crate::dockets::Docket;
@@ -119,7 +118,7 @@ fn dates_kept(docket: &Docket, taken: &Tally, sales: &Sales) -> bool
 
 // The surplus in pesos of a choice with filled sales, if it is lawful.
 pub fn worth(docket: &Docket, choice: u64) -> Option<i64>
-    ensures worth { λ r. ⌜ elim r [ Some s ↦ Lawful (view (now (docket .entry))) choice (filled-sales (view (now (docket .entry))) choice) × (s ≡ surplus (view (now (docket .entry))) choice (filled-sales (view (now (docket .entry))) choice)) | None ↦ ((sales : List ℕ) → Lawful (view (now (docket .entry))) choice sales → ⊥) ] ⌝ }
+    ensures worth { λ r. ⌜ Worth (view (now (docket .entry))) choice r ⌝ }
     ensures best_filled { λ _. ⌜ BestFilled (view (now (docket .entry))) choice ⌝ }
 {
     let taken = Tally::of(docket, choice);
@@ -133,4 +132,11 @@ pub fn worth(docket: &Docket, choice: u64) -> Option<i64>
     } else {
         None
     }
+}
+
+// Whether some sales make a choice lawful.
+pub fn is_lawful(docket: &Docket, choice: u64) -> bool
+    ensures { λ r. ⌜ Decides r ((sales : List ℕ) × Lawful (view (now (docket .entry))) choice sales) ⌝ }
+{
+    worth(docket, choice).is_some()
 }

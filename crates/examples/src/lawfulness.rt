@@ -2,6 +2,7 @@
 use crate::worked::four_packages;
 use crate::worked::package;
 use clearing::dockets::Docket;
+use clearing::lawful::is_lawful;
 use clearing::lawful::worth;
 use offers::memory::Offer;
 use offers::memory::Offers;
@@ -30,6 +31,7 @@ fn check_worth(rt: LibcRuntime, offers: &Offers, rows: &[(u64, Option<i64>)]) ->
     docket.close(offers, &mut Filed)?;
     for (choice, surplus) in rows {
         check_eq(worth(&docket, *choice), *surplus)?;
+        check_eq(is_lawful(&docket, *choice), surplus.is_some())?;
     }
     Ok(())
 }
