@@ -163,6 +163,30 @@ fn certificates_after(rt: LibcRuntime) -> Result<(), Fail> {
     check_worth(rt, &offers, &[(13, Some(123_500_000)), (12, None)])
 }
 
+// Each sort of limit as packages 1, 3 and 4 just keep it and, one less, just break it; all are unqualified, the third is dated.
+#[test]
+fn just_kept_and_just_broken(rt: LibcRuntime) -> Result<(), Fail> {
+    let mut docket = Docket::new(rt.alloc())?;
+    for (date, sort, zone, amount) in [
+        (0, 1, 1, 80),
+        (0, 2, 1, 240_000),
+        (1, 3, 1, 25),
+        (2, 3, 2, 25),
+        (1, 3, 3, 38),
+        (2, 3, 4, 38),
+    ] {
+        let mut kept = four_packages(1, date)?;
+        kept.file(1, limit(sort, zone, amount))?;
+        docket.close(&kept, &mut Filed)?;
+        check_eq(worth(&docket, 13), Some(123_500_000))?;
+        let mut broken = four_packages(1, date)?;
+        broken.file(1, limit(sort, zone, amount.saturating_sub(1)))?;
+        docket.close(&broken, &mut Filed)?;
+        check_eq(worth(&docket, 13), None)?;
+    }
+    Ok(())
+}
+
 // More certificates than are sold, all dated: a missing percentage is 100.
 #[test]
 fn no_percentage(rt: LibcRuntime) -> Result<(), Fail> {

@@ -1,7 +1,7 @@
 // What the program prints of an award.
 use std::fmt;
 
-// A taken package or an open band with what it is sold, by offer number.
+// What an open band is sold, by offer number, in its market's unit.
 #[derive(Clone, Copy, PartialEq, Eq, Debug)]
 pub struct Sold {
     pub band: u8,
