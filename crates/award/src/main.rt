@@ -1,4 +1,6 @@
 // Reads a sheet from standard input, clears its round, and prints the award.
+#![tactic(auto)]
+
 ghost use Rattle.std.specs.Prelude.{◌≤◌, IfOk};
 
 use anyhow::anyhow;

@@ -1,4 +1,6 @@
 // Bounding rules: what a block of choices can be worth at most, without trying each.
+#![tactic(auto)]
+
 pub mod all_in;
 pub mod blocks;
 pub mod ceiling;

@@ -1,4 +1,6 @@
 // What was open at a closing, and what a choice of its packages is worth.
+#![tactic(auto)]
+
 pub mod closing;
 pub mod dockets;
 pub mod lawful;

@@ -1,4 +1,6 @@
 // What a round accepts, refuses, prices and awards, shown by examples.
+#![tactic(auto)]
+
 ghost use Rattle.examples.specs.Steps.{TwoPackagesSteps};
 
 #[cfg(test)]

@@ -1,4 +1,6 @@
 // The offers of a round: the kinds of record, the registers that hold them, and why a call is refused.
+#![tactic(auto)]
+
 pub mod kinds;
 pub mod memory;
 pub mod records;

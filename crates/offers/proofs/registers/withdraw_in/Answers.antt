@@ -8,7 +8,7 @@ use Rattle.offers.proofs.registers.withdraw_in.Goals as goal
 
 pub returns-in-Open : goal.returns-in-Open
 returns-in-Open g c =
-    let within = inside g.R.Record.layout c.args.entries.now c.args.number (sym c.if-not-has-entry.ensures) in
+    let within = inside g.R.Record.layout c.args.entries.now c.args.number (sym c.if-not-has_entry.ensures) in
     let low = within.0 in
     let high = within.1 in
     let place : c.args.number - 1 < length c.args.entries.now = omega arith in

@@ -5,6 +5,6 @@ use Rattle.offers.proofs.words.put_u32.Goals as goal
 
 pub returns : goal.returns
 returns c =
-    let bytes = c.copy-from-slice.ensures.after ∙ c.to-be-bytes-word.ensures in
+    let bytes = c.copy_from_slice.ensures.after ∙ c.to_be_bytes-word.ensures in
     let w = written c.args.at 4 c.args.value c.args.out.now _ c.requires (bytes ∙ simp div-one) in
     record { front = w.0; back = w.1 }

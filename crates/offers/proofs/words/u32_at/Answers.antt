@@ -8,7 +8,7 @@ returns c =
     let wider = number_wider c.args.src.now c.args.at in
     omega (
       arith,
-      c.from-be-bytes.ensures,
+      c.from_be_bytes.ensures,
       rw add-zero at (wider 0 (omega arith)),
       wider 1 (omega arith),
       wider 2 (omega arith),

@@ -5,8 +5,8 @@ use Rattle.offers.proofs.kinds.BandRecord.write.Goals as goal
 
 pub returns : goal.returns
 returns c =
-    filled 9 c.put-u32-2.new.out _ (omega arith) (rw (
-      c.put-u32-2.ensures.front,
-      c.put-u32.ensures.front,
-      c.put-u8.ensures.front,
+    filled 9 c.put_u32-2.new.out _ (omega arith) (rw (
+      c.put_u32-2.ensures.front,
+      c.put_u32.ensures.front,
+      c.put_u8.ensures.front,
     ))

@@ -5,7 +5,7 @@ use Rattle.offers.proofs.kinds.ExclusionRecord.write.Goals as goal
 
 pub returns : goal.returns
 returns c =
-    filled 2 c.put-u8-2.new.out _ (omega arith) (rw (
-      c.put-u8-2.ensures.front,
-      c.put-u8.ensures.front,
+    filled 2 c.put_u8-2.new.out _ (omega arith) (rw (
+      c.put_u8-2.ensures.front,
+      c.put_u8.ensures.front,
     ))

@@ -5,10 +5,10 @@ use Rattle.offers.proofs.kinds.PackageRecord.write.Goals as goal
 
 pub returns : goal.returns
 returns c =
-    filled 31 c.put-u8-7.new.out _ (omega arith) (rw (
-      c.put-u8-7.ensures.front,
-      c.put-u8-6.ensures.front,
-      c.put-u8-5.ensures.front,
+    filled 31 c.put_u8-7.new.out _ (omega arith) (rw (
+      c.put_u8-7.ensures.front,
+      c.put_u8-6.ensures.front,
+      c.put_u8-5.ensures.front,
       c.put-u8-4.ensures.front,
       c.put-u8-3.ensures.front,
       c.put-u8-2.ensures.front,
