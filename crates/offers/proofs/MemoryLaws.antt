@@ -1,5 +1,5 @@
 -- What holds of one register lifted to the entries of every kind. Assumes nothing.
-use Rattle.std.proofs.Common.{◌≡◌, ℕ, List, get_or, Ok, Err, Result, sym, refl, ap, ◌∙◌, subst}
+use Rattle.std.proofs.Common.{◌≡◌, ℕ, List, get_or, Result, refl, ap, ◌∙◌}
 use Rattle.offers.specs.declared.refusals.Refusal.{Refusal}
 use Rattle.offers.specs.declared.registers.Entry.{Entry}
 use Rattle.offers.specs.declared.registers.Entry.TheVariants.{Vacant}
@@ -7,7 +7,7 @@ use Rattle.offers.specs.declared.memory.Offer.{Offer}
 use Rattle.offers.specs.declared.memory.Offer.TheVariants as offer
 use Rattle.offers.specs.declared.memory.Kind.{Kind}
 use Rattle.offers.specs.declared.memory.Kind.TheVariants as kind
-use Rattle.offers.specs.Registers.{Outcome, filing, withdrawing, Onward, Moved}
+use Rattle.offers.specs.Registers.{Outcome, filing, withdrawing, Onward}
 use Rattle.offers.specs.Memory.{Entries, RecordOf, layout_of, entries_of, with_entries, lifted, file_kind, file_offer, withdraw_offer, Kept}
 use Rattle.offers.proofs.RegisterLaws.{onward-same, Moves, Fair, filing-moved, filing-fair, withdrawing-moved, withdrawing-fair}
 

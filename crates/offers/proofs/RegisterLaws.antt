@@ -1,5 +1,5 @@
 -- Filing and withdrawing keep what every call on a register keeps, for any kind. Assumes nothing.
-use Rattle.std.proofs.Common.{◌≡◌, ℕ, zero, suc, ◌+◌, ◌-◌, ◌<◌, ◌≤◌, min, Bool, true, false, eqb, leb, ◌≢◌, ◌⊎◌, List, length, get_or, set, replicate, Ok, Err, Result, sym, refl, subst, inl, inr, ⊎_elim, arith, length-set}
+use Rattle.std.proofs.Common.{◌≡◌, ℕ, zero, suc, ◌-◌, ◌<◌, ◌≤◌, min, true, eqb, leb, ◌⊎◌, List, length, get_or, set, replicate, Ok, Err, Result, refl, subst, inl, inr, ⊎_elim, arith, length-set}
 use Rattle.std.proofs.lemmas.List.{get_or-set_same, get_or-set_other, set_past}
 use Rattle.std.proofs.lemmas.Bool.{cond_both, cases_eq, cases_lt, and_parts, leb-true, eqb-true}
 use Rattle.offers.specs.declared.refusals.Code.{Code}

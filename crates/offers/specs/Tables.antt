@@ -1,5 +1,5 @@
 -- The five kinds of record, each a table of its fields from the left: bytes, field, least, greatest. Assumes nothing.
-use Rattle.std.specs.Prelude.{ℕ, Bool, true, false, cond, not, ◌&&◌, List, [], ◌∷◌, ◌==◌, slice_index}
+use Rattle.std.specs.Prelude.{cond, not, ◌&&◌, List, [], ◌∷◌, ◌==◌, slice_index}
 use Rattle.offers.specs.Fields.{Field, plain, within}
 use Rattle.offers.specs.Layouts.{Layout}
 use Rattle.offers.specs.declared.records.Package.{Package}

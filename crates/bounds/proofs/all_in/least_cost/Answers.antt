@@ -20,13 +20,13 @@ turn d items i held inside =
 pub loop-i-init : goal.loop-i-init
 loop-i-init c = counted_none c.args.block c.deref-package-items.result.now
 
-pub overflow-add-cost : goal.overflow-add-cost
-overflow-add-cost c =
+pub overflow_add-cost : goal.overflow_add-cost
+overflow_add-cost c =
     let here = turn c.args.docket.now c.deref-package-items.result.now c.loop-i.i c.deref-package-items.ensures.value c.loop-i-test.true in
     omega (arith, ints, clamps, here.0.price_least, here.0.price, here.1)
 
-pub overflow-add-cost-then-digits-eq1 : goal.overflow-add-cost-then-digits-eq1
-overflow-add-cost-then-digits-eq1 c =
+pub overflow_add-cost-then-digits-eq1 : goal.overflow_add-cost-then-digits-eq1
+overflow_add-cost-then-digits-eq1 c =
     let here = turn c.args.docket.now c.deref-package-items.result.now c.loop-i.i c.deref-package-items.ensures.value c.loop-i-test.true in
     omega (arith, ints, here.0.price_least, here.0.price, here.1)
 

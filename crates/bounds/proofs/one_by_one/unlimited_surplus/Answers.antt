@@ -7,13 +7,13 @@ use Rattle.clearing.proofs.Takings.{taken-priced}
 use Rattle.clearing.proofs.Tallying.{Priced}
 use Rattle.bounds.proofs.one_by_one.unlimited_surplus.Goals as goal
 
-pub overflow-cast-result : goal.overflow-cast-result
-overflow-cast-result c =
+pub overflow_cast-result : goal.overflow_cast-result
+overflow_cast-result c =
     let sold = subst Sold (sym c.sell-sales.ensures) (sold-in-all c.of-taken.result.supply c.args.docket.now) in
     omega (arith, ints, sold.income)
 
-pub overflow-sub-result : goal.overflow-sub-result
-overflow-sub-result c =
+pub overflow_sub-result : goal.overflow_sub-result
+overflow_sub-result c =
     let sold = subst Sold (sym c.sell-sales.ensures) (sold-in-all c.of-taken.result.supply c.args.docket.now) in
     let cost = subst Priced (sym c.of-taken.ensures) (taken-priced c.args.docket.now c.args.choice) in
     omega (arith, ints, sold.income, cost.low, cost.high)

@@ -7,13 +7,13 @@ use Rattle.clearing.specs.Bands.{Numbered, ahead_of}
 use Rattle.clearing.proofs.Fits.{open_fits, band_ranges}
 use Rattle.clearing.proofs.Openings.{all_opened, ahead-open, ahead-shut, ahead_by_place}
 use Rattle.clearing.proofs.closing.ahead_of.Goals as goal
-use Rattle.clearing.proofs.closing.ahead_of.Goals.{in-Open+then-comes-ahead, in-Open+else-comes-ahead, in-default}
+use Rattle.clearing.proofs.closing.ahead_of.Goals.{in-Open+then-comes_ahead, in-Open+else-comes_ahead, in_default}
 
 pub loop-i-init : goal.loop-i-init
 loop-i-init c = (refl, omega arith)
 
-pub overflow-add-ahead : goal.overflow-add-ahead
-overflow-add-ahead c =
+pub overflow_add-ahead : goal.overflow_add-ahead
+overflow_add-ahead c =
     let ranges = band_ranges c.in-Open.other (open_fits band_layout c.args.entries.now c.loop-i.i _ c.requires c.in-Open.is) in
     omega arith
 
@@ -24,21 +24,21 @@ loop-i-preserved c =
     let band : Numbered Band = record { number = c.args.at + 1; of = c.args.band.now } in
     let inside : i < length es = omega arith in
     elim c.match-entry.branch [
-      | in-Open+then-comes-ahead w ↦
+      | in-Open+then-comes_ahead w ↦
           let other = w.in-Open.other in
           let ranges = band_ranges other (open_fits band_layout es i other c.requires w.in-Open.is) in
-          let first = ahead_by_place other c.args.band.now i c.args.at ∙ sym w.if-comes-ahead.ensures in
+          let first = ahead_by_place other c.args.band.now i c.args.at ∙ sym w.if-comes_ahead.ensures in
           let more = ahead-open es i band inside other w.in-Open.is in
           let counted = cond-true _ other.quantity 0 first in
           (omega (arith, w.ahead-is, c.loop-i.invariant.0), omega (arith, w.ahead-is))
-      | in-Open+else-comes-ahead w ↦
+      | in-Open+else-comes_ahead w ↦
           let other = w.in-Open.other in
-          let later = ahead_by_place other c.args.band.now i c.args.at ∙ sym w.if-comes-ahead.ensures in
+          let later = ahead_by_place other c.args.band.now i c.args.at ∙ sym w.if-comes_ahead.ensures in
           let more = ahead-open es i band inside other w.in-Open.is in
           let counted = cond-false _ other.quantity 0 later in
           (omega (arith, w.ahead-is, c.loop-i.invariant.0), omega (arith, w.ahead-is))
-      | in-default w ↦
-          let same = ahead-shut es i band inside w.in-default.not-Open in
+      | in_default w ↦
+          let same = ahead-shut es i band inside w.in_default.not-Open in
           (w.ahead-is ∙ c.loop-i.invariant.0 ∙ sym same, omega (arith, w.ahead-is))
     ]
 

@@ -5,13 +5,13 @@ use Rattle.offers.specs.Tables.{band_layout}
 use Rattle.clearing.proofs.Fits.{open_fits, within-from}
 use Rattle.clearing.proofs.Copies.{none-copied, none_more, one_more, all-copied}
 use Rattle.clearing.proofs.closing.copy_bands.Goals as goal
-use Rattle.clearing.proofs.closing.copy_bands.Goals.{in-Open, in-default}
+use Rattle.clearing.proofs.closing.copy_bands.Goals.{in-Open, in_default}
 
 pub loop-i-init : goal.loop-i-init
 loop-i-init c = none-copied _ _ _ _ c.clear.new.self c.clear.ensures.items c.clear.ensures.len refl
 
-pub push-reserved-requires : goal.push-reserved-requires
-push-reserved-requires c = omega (arith, c.loop-i.invariant.few, c.loop-i.invariant.same)
+pub push_reserved-requires : goal.push_reserved-requires
+push_reserved-requires c = omega (arith, c.loop-i.invariant.few, c.loop-i.invariant.same)
 
 pub loop-i-preserved : goal.loop-i-preserved
 loop-i-preserved c =
@@ -20,13 +20,13 @@ loop-i-preserved c =
     elim c.match-entry.branch [
       | in-Open w ↦
           let r = w.in-Open.«record» in
-          rw w.into-is (one_more _ _ es _ c.loop-i.into i (omega arith) c.loop-i.invariant w.push-reserved.new.self r
-          (record { number = i + 1; ahead = w.ahead-of.result; «record» = r }) w.in-Open.is
-          (ap (λ n. record { number = i + 1; ahead = n; «record» = r }) w.ahead-of.ensures.value)
+          rw w.into-is (one_more _ _ es _ c.loop-i.into i (omega arith) c.loop-i.invariant w.push_reserved.new.self r
+          (record { number = i + 1; ahead = w.ahead_of.result; «record» = r }) w.in-Open.is
+          (ap (λ n. record { number = i + 1; ahead = n; «record» = r }) w.ahead_of.ensures.value)
           (and_from _ _ (open_fits band_layout es i r c.requires.in_range w.in-Open.is)
-          (and_from _ _ (within-from 1 64 (i + 1) (omega arith) (omega arith)) (le-leb _ 6400000000 w.ahead-of.ensures.bound)))
-          w.push-reserved.ensures.items w.push-reserved.ensures.len w.push-reserved.ensures.capacity)
-      | in-default w ↦ none_more _ _ es _ c.loop-i.into i (omega arith) c.loop-i.invariant _ w.in-default.not-Open w.into-is
+          (and_from _ _ (within-from 1 64 (i + 1) (omega arith) (omega arith)) (le-leb _ 6400000000 w.ahead_of.ensures.bound)))
+          w.push_reserved.ensures.items w.push_reserved.ensures.len w.push_reserved.ensures.capacity)
+      | in_default w ↦ none_more _ _ es _ c.loop-i.into i (omega arith) c.loop-i.invariant _ w.in_default.not-Open w.into-is
     ]
 
 pub returns : goal.returns

@@ -5,13 +5,13 @@ use Rattle.offers.specs.declared.registers.Entry.TheVariants.{Vacant}
 use Rattle.clearing.proofs.Fits.{open_fits}
 use Rattle.clearing.proofs.Copies.{none-copied, none_more, one_more, all-copied}
 use Rattle.clearing.proofs.closing.copy_open.Goals as goal
-use Rattle.clearing.proofs.closing.copy_open.Goals.{in-Open, in-default}
+use Rattle.clearing.proofs.closing.copy_open.Goals.{in-Open, in_default}
 
 pub loop-entry-init : goal.loop-entry-init
 loop-entry-init g c = none-copied _ _ _ _ c.clear.new.self c.clear.ensures.items c.clear.ensures.len refl
 
-pub push-reserved-requires : goal.push-reserved-requires
-push-reserved-requires g c = omega (arith, c.loop-entry.invariant.few, c.loop-entry.invariant.same)
+pub push_reserved-requires : goal.push_reserved-requires
+push_reserved-requires g c = omega (arith, c.loop-entry.invariant.few, c.loop-entry.invariant.same)
 
 pub loop-entry-preserved : goal.loop-entry-preserved
 loop-entry-preserved g c =
@@ -22,10 +22,10 @@ loop-entry-preserved g c =
     elim c.match-entry.branch [
       | in-Open w ↦
           let is = sym read ∙ w.in-Open.is in
-          rw w.into-is (one_more _ _ es _ c.loop-entry.into i inside c.loop-entry.invariant w.push-reserved.new.self w.in-Open.«record» _ is refl
+          rw w.into-is (one_more _ _ es _ c.loop-entry.into i inside c.loop-entry.invariant w.push_reserved.new.self w.in-Open.«record» _ is refl
           (open_fits g.R.Record.layout es i _ c.requires.in_range is)
-          w.push-reserved.ensures.items w.push-reserved.ensures.len w.push-reserved.ensures.capacity)
-      | in-default w ↦ none_more _ _ es _ c.loop-entry.into i inside c.loop-entry.invariant _ (λ r is. w.in-default.not-Open r (read ∙ is)) w.into-is
+          w.push_reserved.ensures.items w.push_reserved.ensures.len w.push_reserved.ensures.capacity)
+      | in_default w ↦ none_more _ _ es _ c.loop-entry.into i inside c.loop-entry.invariant _ (λ r is. w.in_default.not-Open r (read ∙ is)) w.into-is
     ]
 
 pub returns : goal.returns

@@ -6,13 +6,13 @@ use Rattle.clearing.specs.Ranges.{price_fits}
 use Rattle.clearing.proofs.Fits.{open_fits, within-from, each-getD, price-stored}
 use Rattle.clearing.proofs.Copies.{none-copied, none_more, one_more, all-copied}
 use Rattle.clearing.proofs.closing.copy_packages.Goals as goal
-use Rattle.clearing.proofs.closing.copy_packages.Goals.{in-Open, in-default}
+use Rattle.clearing.proofs.closing.copy_packages.Goals.{in-Open, in_default}
 
 pub loop-i-init : goal.loop-i-init
 loop-i-init c = none-copied _ _ _ _ c.clear.new.self c.clear.ensures.items c.clear.ensures.len refl
 
-pub push-reserved-requires : goal.push-reserved-requires
-push-reserved-requires c = omega (arith, c.loop-i.invariant.few, c.loop-i.invariant.same)
+pub push_reserved-requires : goal.push_reserved-requires
+push_reserved-requires c = omega (arith, c.loop-i.invariant.few, c.loop-i.invariant.same)
 
 pub loop-i-preserved : goal.loop-i-preserved
 loop-i-preserved c =
@@ -22,16 +22,16 @@ loop-i-preserved c =
     elim c.match-entry.branch [
       | in-Open w ↦
           let r = w.in-Open.«record» in
-          let fit = each-getD price_fits c.args.prices.now i (pos 0) (omega arith) c.requires.prices-fit in
+          let fit = each-getD price_fits c.args.prices.now i (pos 0) (omega arith) c.requires.prices_fit in
           let stored = price-stored price fit in
           let past : i ≡ i + 1 - 1 = omega arith in
-          rw w.into-is (one_more _ _ es _ c.loop-i.into i (omega arith) c.loop-i.invariant w.push-reserved.new.self r
+          rw w.into-is (one_more _ _ es _ c.loop-i.into i (omega arith) c.loop-i.invariant w.push_reserved.new.self r
           (record { number = i + 1; price = to_z w64 (of_z w64 price); «record» = r }) w.in-Open.is
           (ap (λ z. record { number = i + 1; price = z; «record» = r }) (stored ∙ ap (λ n. get_or c.args.prices.now n (pos 0)) past))
           (and_from _ _ (open_fits package_layout es i r c.requires.in_range w.in-Open.is)
           (and_from _ _ (within-from 1 40 (i + 1) (omega arith) (omega arith)) (subst (λ z. price_fits z ≡ true) (sym stored) fit)))
-          w.push-reserved.ensures.items w.push-reserved.ensures.len w.push-reserved.ensures.capacity)
-      | in-default w ↦ none_more _ _ es _ c.loop-i.into i (omega arith) c.loop-i.invariant _ w.in-default.not-Open w.into-is
+          w.push_reserved.ensures.items w.push_reserved.ensures.len w.push_reserved.ensures.capacity)
+      | in_default w ↦ none_more _ _ es _ c.loop-i.into i (omega arith) c.loop-i.invariant _ w.in_default.not-Open w.into-is
     ]
 
 pub returns : goal.returns

@@ -4,7 +4,7 @@ use Rattle.pricing.specs.Prices.{Bounded}
 use Rattle.clearing.proofs.Fits.{price-from, price-stored}
 use Rattle.clearing.proofs.Pricings.{none-priced, one-priced, all_priced, refused_at}
 use Rattle.clearing.proofs.closing.price_all.Goals as goal
-use Rattle.clearing.proofs.closing.price_all.Goals.{in-Open+in-Ok, in-default}
+use Rattle.clearing.proofs.closing.price_all.Goals.{in-Open+in-Ok, in_default}
 
 pub loop-i-init : goal.loop-i-init
 loop-i-init g c = record { long = sym c.told-entries; fit = refl; same = refl; so = λ k h. absurd (omega arith) }
@@ -22,8 +22,8 @@ loop-i-preserved g c =
           one-priced _ _ es i c.loop-i.prices inv w.in-Open.package w.in-Ok.price _ _ (omega arith) w.in-Open.is answer fits
           (w.prices-is ∙ ap (set c.loop-i.prices i) (price-stored w.in-Ok.price fits))
           (ap g.P.PriceRule.meaning w.rule-is ∙ w.price.ensures.same)
-      | in-default w ↦
-          none-priced _ _ es i c.loop-i.prices inv _ _ w.in-default.not-Open w.prices-is (ap g.P.PriceRule.meaning w.rule-is)
+      | in_default w ↦
+          none-priced _ _ es i c.loop-i.prices inv _ _ w.in_default.not-Open w.prices-is (ap g.P.PriceRule.meaning w.rule-is)
     ]
 
 pub returns : goal.returns
@@ -31,7 +31,7 @@ returns g c =
     record {
       fit = c.loop-i.invariant.fit;
       answer = all_priced _ c.args.entries.now c.loop-i.i c.loop-i.prices (omega arith) c.loop-i.invariant.so;
-      same-rule = c.loop-i.invariant.same;
+      same_rule = c.loop-i.invariant.same;
     }
 
 pub returns-in-Err : goal.returns-in-Err
@@ -42,6 +42,6 @@ returns-in-Err g c =
       fit = tt;
       answer =
           refused_at _ c.args.entries.now c.loop-i.prices c.loop-i.i c.in-Open.package c.in-Err.fault inv.so c.in-Open.is fault
-          ∙ ap Err (sym c.price-fault.ensures);
-      same-rule = c.price.ensures.same ∙ inv.same;
+          ∙ ap Err (sym c.price_fault.ensures);
+      same_rule = c.price.ensures.same ∙ inv.same;
     }

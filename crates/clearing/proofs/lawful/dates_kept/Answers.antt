@@ -4,32 +4,32 @@ use Rattle.clearing.proofs.Fits.{each-most}
 use Rattle.clearing.proofs.Tested.{decided_false, share-within, share-above}
 use Rattle.clearing.proofs.lawful.dates_kept.Goals as goal
 
-pub overflow-mul-taken : goal.overflow-mul-taken
-overflow-mul-taken c = omega (arith, each-most 400000000 c.args.taken.now.before c.loop-market.market c.requires.before)
+pub overflow_mul-taken : goal.overflow_mul-taken
+overflow_mul-taken c = omega (arith, each-most 400000000 c.args.taken.now.before c.loop-market.market c.requires.before)
 
-pub overflow-mul-least : goal.overflow-mul-least
-overflow-mul-least c =
+pub overflow_mul-least : goal.overflow_mul-least
+overflow_mul-least c =
     omega (arith, mul-le-mul (each-most 100 c.percentages-least.result 0 c.percentages-least.ensures.bound) (each-most 6400000000 c.args.sales.now.sold c.loop-market.market c.requires.sold))
 
-pub overflow-mul-taken-in-loop-market : goal.overflow-mul-taken-in-loop-market
-overflow-mul-taken-in-loop-market c = omega (arith, each-most 400000000 c.args.taken.now.after c.loop-market.market c.requires.after)
+pub overflow_mul-taken-in-loop-market : goal.overflow_mul-taken-in-loop-market
+overflow_mul-taken-in-loop-market c = omega (arith, each-most 400000000 c.args.taken.now.after c.loop-market.market c.requires.after)
 
-pub overflow-mul-least-in-loop-market : goal.overflow-mul-least-in-loop-market
-overflow-mul-least-in-loop-market c =
+pub overflow_mul-least-in-loop-market : goal.overflow_mul-least-in-loop-market
+overflow_mul-least-in-loop-market c =
     omega (arith, mul-le-mul (each-most 100 c.percentages-least.result 1 c.percentages-least.ensures.bound) (each-most 6400000000 c.args.sales.now.sold c.loop-market.market c.requires.sold))
 
-pub overflow-mul-taken-2 : goal.overflow-mul-taken-2
-overflow-mul-taken-2 c = omega (arith, each-most 400000000 c.args.taken.now.before 4 c.requires.before)
+pub overflow_mul-taken-2 : goal.overflow_mul-taken-2
+overflow_mul-taken-2 c = omega (arith, each-most 400000000 c.args.taken.now.before 4 c.requires.before)
 
-pub overflow-mul-least-2 : goal.overflow-mul-least-2
-overflow-mul-least-2 c =
+pub overflow_mul-least-2 : goal.overflow_mul-least-2
+overflow_mul-least-2 c =
     omega (arith, mul-le-mul (each-most 100 c.percentages-least.result 2 c.percentages-least.ensures.bound) (each-most 6400000000 c.args.sales.now.sold 4 c.requires.sold))
 
-pub overflow-mul-result : goal.overflow-mul-result
-overflow-mul-result c = omega (arith, each-most 400000000 c.args.taken.now.after 4 c.requires.after)
+pub overflow_mul-result : goal.overflow_mul-result
+overflow_mul-result c = omega (arith, each-most 400000000 c.args.taken.now.after 4 c.requires.after)
 
-pub overflow-mul-result-then-taken-market-3 : goal.overflow-mul-result-then-taken-market-3
-overflow-mul-result-then-taken-market-3 c =
+pub overflow_mul-result-then-taken-market-3 : goal.overflow_mul-result-then-taken-market-3
+overflow_mul-result-then-taken-market-3 c =
     omega (arith, mul-le-mul (each-most 100 c.percentages-least.result 3 c.percentages-least.ensures.bound) (each-most 6400000000 c.args.sales.now.sold 4 c.requires.sold))
 
 pub loop-market-preserved : goal.loop-market-preserved

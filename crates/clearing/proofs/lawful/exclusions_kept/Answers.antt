@@ -7,8 +7,8 @@ use Rattle.clearing.proofs.Tested.{decided_true, decided_false}
 use Rattle.clearing.proofs.lawful.exclusions_kept.Goals as goal
 use Rattle.clearing.proofs.lawful.exclusions_kept.Goals.{then-taken-exclusion+else-first-group-ne0, else-taken-exclusion, else-first-group-ne0-via-then-first-group-ne0+else-first-group, else-first-group-ne0-via-else-first-group-ne0}
 
-pub overflow-sub-group : goal.overflow-sub-group
-overflow-sub-group c =
+pub overflow_sub-group : goal.overflow_sub-group
+overflow_sub-group c =
     let ranges = exclusion-held c.args.docket.now c.loop-exclusion.exclusion-index _ c.deref-exclusion-items.ensures.value c.loop-exclusion-test.true in
     omega arith
 

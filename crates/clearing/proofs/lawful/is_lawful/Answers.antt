@@ -12,5 +12,5 @@ decided v choice None w = (λ e. absurd (false≢true e), λ h. absurd (w h.0 h.
 
 pub returns : goal.returns
 returns c =
-    Decides-at c.is-some.result (is_some c.worth.result) c.is-some.ensures
+    Decides-at c.is_some.result (is_some c.worth.result) c.is_some.ensures
     (decided (view c.args.docket.now) c.args.choice c.worth.result c.worth.ensures.worth)

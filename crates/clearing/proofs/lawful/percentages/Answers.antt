@@ -12,8 +12,8 @@ use Rattle.clearing.proofs.lawful.percentages.Goals.{then-limit-eq-PERCENTAGE, e
 pub loop-limit-init : goal.loop-limit-init
 loop-limit-init c = refl
 
-pub overflow-sub-zone : goal.overflow-sub-zone
-overflow-sub-zone c =
+pub overflow_sub-zone : goal.overflow_sub-zone
+overflow_sub-zone c =
     let ranges = limit-ranged c.args.docket.now c.loop-limit.limit-index c.deref-limit-items.result.now c.deref-limit-items.ensures.value c.loop-limit-test.true in
     omega arith
 

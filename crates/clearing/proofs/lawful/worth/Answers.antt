@@ -15,21 +15,21 @@ use Rattle.clearing.proofs.Ranged.{ranged_docket}
 use Rattle.clearing.proofs.Judged.{worth_tells, worth-once}
 use Rattle.clearing.proofs.Ruled.{Ruled, lawful-from, ruled-from, income-is, worth-stored}
 use Rattle.clearing.proofs.lawful.worth.Goals as goal
-use Rattle.clearing.proofs.lawful.worth.Goals.{else-pairs-kept-via-then-pairs-kept+then-exclusions-kept+then-zones-kept+else-dates-kept, else-pairs-kept-via-then-pairs-kept+then-exclusions-kept+else-zones-kept, else-pairs-kept-via-then-pairs-kept+else-exclusions-kept, else-pairs-kept-via-else-pairs-kept}
+use Rattle.clearing.proofs.lawful.worth.Goals.{else-pairs_kept-via-then-pairs_kept+then-exclusions_kept+then-zones_kept+else-dates_kept, else-pairs_kept-via-then-pairs_kept+then-exclusions_kept+else-zones_kept, else-pairs_kept-via-then-pairs_kept+else-exclusions_kept, else-pairs_kept-via-else-pairs_kept}
 
-pub dates-kept-requires : goal.dates-kept-requires
-dates-kept-requires c =
+pub dates_kept-requires : goal.dates_kept-requires
+dates_kept-requires c =
     let sums = subst (Bounded 400000000) (sym c.of-taken.ensures) (taken-bounded c.args.docket.now c.args.choice) in
     let sold = subst Sold (sym c.sell-sales.ensures) (sold-in-all c.of-taken.result.supply c.args.docket.now) in
     record { before = sums.before; after = sums.after; sold = sold.sold }
 
-pub overflow-cast-result : goal.overflow-cast-result
-overflow-cast-result c =
+pub overflow_cast-result : goal.overflow_cast-result
+overflow_cast-result c =
     let sold = subst Sold (sym c.sell-sales.ensures) (sold-in-all c.of-taken.result.supply c.args.docket.now) in
     omega (arith, ints, sold.income)
 
-pub overflow-sub-result : goal.overflow-sub-result
-overflow-sub-result c =
+pub overflow_sub-result : goal.overflow_sub-result
+overflow_sub-result c =
     let sold = subst Sold (sym c.sell-sales.ensures) (sold-in-all c.of-taken.result.supply c.args.docket.now) in
     let cost = subst Priced (sym c.of-taken.ensures) (taken-priced c.args.docket.now c.args.choice) in
     omega (arith, ints, sold.income, cost.low, cost.high)
@@ -38,8 +38,8 @@ overflow-sub-result c =
 in_order : (d : Docket) → InOrder (view d)
 in_order d = record { numbers = d.bands_rise; ahead = d.bands_ahead }
 
-pub returns-then-dates-kept : goal.returns-then-dates-kept
-returns-then-dates-kept c =
+pub returns-then-dates_kept : goal.returns-then-dates_kept
+returns-then-dates_kept c =
     let d = c.args.docket.now in
     let choice = c.args.choice in
     let t = c.of-taken.result in
@@ -47,10 +47,10 @@ returns-then-dates-kept c =
     let sold = subst Sold (sym c.sell-sales.ensures) (sold-in-all t.supply d) in
     let cost = subst Priced (sym c.of-taken.ensures) (taken-priced d choice) in
     let rules : Ruled (view d) t s = record {
-      pairs = c.if-pairs-kept.ensures.0 refl;
-      exclusions = c.if-exclusions-kept.ensures.0 refl;
-      zones = c.if-zones-kept.ensures.0 refl;
-      dates = c.if-dates-kept.ensures.0 refl;
+      pairs = c.if-pairs_kept.ensures.0 refl;
+      exclusions = c.if-exclusions_kept.ensures.0 refl;
+      zones = c.if-zones_kept.ensures.0 refl;
+      dates = c.if-dates_kept.ensures.0 refl;
     } in
     let worth : Worth (view d) choice (Some _) = (
       lawful-from d choice t s c.of-taken.ensures c.sell-sales.ensures (λ m. filled_within (view d) choice m (in_order d) d.bands_fit) rules,
@@ -60,28 +60,28 @@ returns-then-dates-kept c =
     record {
       value = worth-once (view d) choice (Some _) (worth_of (view d) choice) worth (worth_tells (view d) (ranged_docket d) choice);
       worth = worth;
-      best-filled = best-filled (view d) choice (in_order d) d.bands_fit;
+      best_filled = best_filled (view d) choice (in_order d) d.bands_fit;
     }
 
-pub returns-else-pairs-kept : goal.returns-else-pairs-kept
-returns-else-pairs-kept c =
+pub returns-else-pairs_kept : goal.returns-else-pairs_kept
+returns-else-pairs_kept c =
     let d = c.args.docket.now in
     let choice = c.args.choice in
-    let best = best-filled (view d) choice (in_order d) d.bands_fit in
+    let best = best_filled (view d) choice (in_order d) d.bands_fit in
     let rules = λ (sales : List ℕ) (lawful : Lawful (view d) choice sales). ruled-from d choice c.of-taken.result c.sell-sales.result c.of-taken.ensures c.sell-sales.ensures (best.lawful sales lawful) in
     let worth : Worth (view d) choice None = λ sales lawful.
-    elim c.else-pairs-kept.branch [
-      | else-pairs-kept-via-then-pairs-kept+then-exclusions-kept+then-zones-kept+else-dates-kept w ↦
-          not_from_Decides _ w.dates-kept.ensures w.if-dates-kept.false (rules sales lawful).dates
-      | else-pairs-kept-via-then-pairs-kept+then-exclusions-kept+else-zones-kept w ↦
-          not_from_Decides _ w.zones-kept.ensures w.if-zones-kept.false (rules sales lawful).zones
-      | else-pairs-kept-via-then-pairs-kept+else-exclusions-kept w ↦
-          not_from_Decides _ w.exclusions-kept.ensures w.if-exclusions-kept.false (rules sales lawful).exclusions
-      | else-pairs-kept-via-else-pairs-kept w ↦
-          not_from_Decides _ c.pairs-kept.ensures w.if-pairs-kept.false (rules sales lawful).pairs
+    elim c.else-pairs_kept.branch [
+      | else-pairs_kept-via-then-pairs_kept+then-exclusions_kept+then-zones_kept+else-dates_kept w ↦
+          not_from_Decides _ w.dates_kept.ensures w.if-dates_kept.false (rules sales lawful).dates
+      | else-pairs_kept-via-then-pairs_kept+then-exclusions_kept+else-zones_kept w ↦
+          not_from_Decides _ w.zones_kept.ensures w.if-zones_kept.false (rules sales lawful).zones
+      | else-pairs_kept-via-then-pairs_kept+else-exclusions_kept w ↦
+          not_from_Decides _ w.exclusions_kept.ensures w.if-exclusions_kept.false (rules sales lawful).exclusions
+      | else-pairs_kept-via-else-pairs_kept w ↦
+          not_from_Decides _ c.pairs_kept.ensures w.if-pairs_kept.false (rules sales lawful).pairs
     ] in
     record {
       value = worth-once (view d) choice None (worth_of (view d) choice) worth (worth_tells (view d) (ranged_docket d) choice);
       worth = worth;
-      best-filled = best;
+      best_filled = best;
     }

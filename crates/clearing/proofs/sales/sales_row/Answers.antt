@@ -12,8 +12,8 @@ pub sale-requires : goal.sale-requires
 sale-requires c =
     band-held c.args.docket.now c.loop-band.band-index _ c.deref-band-items.ensures.value c.loop-band-test.true
 
-pub overflow-sub-row : goal.overflow-sub-row
-overflow-sub-row c =
+pub overflow_sub-row : goal.overflow_sub-row
+overflow_sub-row c =
     let ranges = band-ranged c.args.docket.now c.loop-band.band-index c.deref-band-items.result.now c.deref-band-items.ensures.value c.loop-band-test.true in
     omega arith
 

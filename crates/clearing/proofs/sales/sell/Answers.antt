@@ -13,8 +13,8 @@ pub sale-sold-requires : goal.sale-sold-requires
 sale-sold-requires c =
     band-held c.args.docket.now c.loop-band.band-index _ c.deref-band-items.ensures.value c.loop-band-test.true
 
-pub overflow-sub-sales : goal.overflow-sub-sales
-overflow-sub-sales c =
+pub overflow_sub-sales : goal.overflow_sub-sales
+overflow_sub-sales c =
     let this = turn c.args.docket.now c.args.supply.now c.deref-band-items.result.now c.loop-band.band-index c.loop-band.sales c.sale-sold.result c.deref-band-items.ensures.value c.loop-band-test.true c.loop-band.invariant c.sale-sold.ensures in
     omega arith
 
@@ -23,8 +23,8 @@ bounds-sales-band c =
     let this = turn c.args.docket.now c.args.supply.now c.deref-band-items.result.now c.loop-band.band-index c.loop-band.sales c.sale-sold.result c.deref-band-items.ensures.value c.loop-band-test.true c.loop-band.invariant c.sale-sold.ensures in
     omega arith
 
-pub overflow-add-sales : goal.overflow-add-sales
-overflow-add-sales c =
+pub overflow_add-sales : goal.overflow_add-sales
+overflow_add-sales c =
     let this = turn c.args.docket.now c.args.supply.now c.deref-band-items.result.now c.loop-band.band-index c.loop-band.sales c.sale-sold.result c.deref-band-items.ensures.value c.loop-band-test.true c.loop-band.invariant c.sale-sold.ensures in
     omega arith
 
@@ -33,13 +33,13 @@ bounds-sales-band-in-loop-band c =
     let this = turn c.args.docket.now c.args.supply.now c.deref-band-items.result.now c.loop-band.band-index c.loop-band.sales c.sale-sold.result c.deref-band-items.ensures.value c.loop-band-test.true c.loop-band.invariant c.sale-sold.ensures in
     omega arith
 
-pub overflow-mul-sales : goal.overflow-mul-sales
-overflow-mul-sales c =
+pub overflow_mul-sales : goal.overflow_mul-sales
+overflow_mul-sales c =
     let this = turn c.args.docket.now c.args.supply.now c.deref-band-items.result.now c.loop-band.band-index c.loop-band.sales c.sale-sold.result c.deref-band-items.ensures.value c.loop-band-test.true c.loop-band.invariant c.sale-sold.ensures in
     omega arith
 
-pub overflow-add-sales-in-loop-band : goal.overflow-add-sales-in-loop-band
-overflow-add-sales-in-loop-band c =
+pub overflow_add-sales-in-loop-band : goal.overflow_add-sales-in-loop-band
+overflow_add-sales-in-loop-band c =
     let this = turn c.args.docket.now c.args.supply.now c.deref-band-items.result.now c.loop-band.band-index c.loop-band.sales c.sale-sold.result c.deref-band-items.ensures.value c.loop-band-test.true c.loop-band.invariant c.sale-sold.ensures in
     omega arith
 

@@ -1,7 +1,7 @@
 -- An open entry that is withdrawn moves on.
-use Rattle.std.proofs.Common.{◌≡◌, ◌-◌, ◌<◌, ◌≤◌, true, length, get_or, sym, refl, inr, arith, rules}
+use Rattle.std.proofs.Common.{◌≡◌, ◌-◌, ◌<◌, length, sym, refl, inr, arith, rules}
 use Rattle.std.proofs.lemmas.List.{get_or_default}
-use Rattle.offers.specs.Registers.{entry, numbered}
+use Rattle.offers.specs.Registers.{entry}
 use Rattle.offers.specs.declared.registers.Entry.TheVariants.{Vacant, Open, Withdrawn}
 use Rattle.offers.proofs.RegisterLaws.{accepted_moved, inside}
 use Rattle.offers.proofs.registers.withdraw_in.Goals as goal

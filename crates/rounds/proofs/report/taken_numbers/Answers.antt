@@ -4,7 +4,7 @@ use Rattle.clearing.specs.Choices.{taken}
 use Rattle.clearing.proofs.Held.{no_package}
 use Rattle.rounds.proofs.Reported.{Listed, listed-taken, listed-passed, listed_all}
 use Rattle.rounds.proofs.report.taken_numbers.Goals as goal
-use Rattle.rounds.proofs.report.taken_numbers.Goals.{then-digits-eq1+in-ok-push, else-digits-eq1}
+use Rattle.rounds.proofs.report.taken_numbers.Goals.{then-digits-eq1+in_ok-push, else-digits-eq1}
 
 pub loop-package-init : goal.loop-package-init
 loop-package-init c = rw c.new-numbers.ensures.items refl
@@ -17,7 +17,7 @@ loop-package-preserved c =
     let so_far = vec_items c.loop-package.numbers in
     let after : List ℕ → Type 0 = λ xs. Listed items c.args.choice (i + 1) (digits / 2) xs in
     elim c.if-digits-eq1.branch [
-      | then-digits-eq1+in-ok-push w ↦
+      | then-digits-eq1+in_ok-push w ↦
           let pushed : vec_items c.if-digits-eq1.numbers ≡ so_far ++ (get_or items i no_package).number ∷ [] = search rules in
           subst after (sym pushed) (listed-taken items c.args.choice i digits so_far no_package c.loop-package-test.true c.loop-package.invariant w.if-digits-eq1.true)
       | else-digits-eq1 w ↦

@@ -32,7 +32,7 @@ loop-preserved g c =
           ∙ ap (step rule v) c.loop.invariant.0
           ∙ sym (steps-more rule v c.loop.counter c.args.from (subst (λ a. finished v a ≡ false) c.loop.invariant.0 left))
           ∙ ap (λ n. steps rule v n c.args.from) (sym (add-one c.loop.counter)),
-      c.step-at.ensures.same-rule ∙ c.loop.invariant.1,
+      c.step-at.ensures.same_rule ∙ c.loop.invariant.1,
     )
 
 -- What holds where so many steps of a rule lead.
@@ -58,7 +58,7 @@ returns-after-loop g c =
     let all : c.loop.counter ≡ c.args.steps = omega arith in
     let value = c.loop.invariant.0 ∙ ap (λ n. steps rule v n c.args.from) all in
     let so = led rule (g.met.B.BoundingRule.sound c.args.rule.now) v c.args.from c.requires c.args.steps c.loop.at value in
-    record { value = value; settles = so.settles; placed = so.placed; leads = so.leads; same-rule = c.loop.invariant.1 }
+    record { value = value; settles = so.settles; placed = so.placed; leads = so.leads; same_rule = c.loop.invariant.1 }
 
 pub returns-then-at-all : goal.returns-then-at-all
 returns-then-at-all g c =
@@ -67,4 +67,4 @@ returns-then-at-all g c =
     let done : finished v c.loop.at ≡ true = eq-eqb _ _ (c.if-at-all.true ∙ c.choices-all.ensures.value) in
     let value = c.loop.invariant.0 ∙ sym (steps-done rule v c.loop.counter c.args.steps c.args.from (subst (λ a. finished v a ≡ true) c.loop.invariant.0 done) (omega arith)) in
     let so = led rule (g.met.B.BoundingRule.sound c.args.rule.now) v c.args.from c.requires c.args.steps c.loop.at value in
-    record { value = value; settles = so.settles; placed = so.placed; leads = so.leads; same-rule = c.loop.invariant.1 }
+    record { value = value; settles = so.settles; placed = so.placed; leads = so.leads; same_rule = c.loop.invariant.1 }

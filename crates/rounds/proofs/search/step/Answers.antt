@@ -45,5 +45,5 @@ returns-else-at-gt0 g c =
     ] in
     record {
       value = c.settle-else-at-gt0.ensures ∙ ap (λ a. settle a 1) c.lead.ensures ∙ sym (step-tries rule v at hope c.if-at-gt0.false);
-      same-rule = c.consult.ensures.same;
+      same_rule = c.consult.ensures.same;
     }

@@ -6,19 +6,19 @@ use Rattle.clearing.specs.Lawful.{view}
 use Rattle.rounds.proofs.Cleared.{docket_closed}
 use Rattle.rounds.proofs.sheet_round.clear_sheet.Goals as goal
 
-pub returns-in-err-close : goal.returns-in-err-close
-returns-in-err-close g c =
-    let docket = docket_closed (view c.args.docket.now) (held c.vacant-offers.result) (held c.catch_up.new.offers) c.args.sheet.now c.vacant-offers.ensures c.in-ok-catch-up.ensures.answer c.catch_up.ensures.after in
-    let p = err_from_is_err_and c.from-residual-in-err-close.result c.from-residual-in-err-close.ensures.1 in
+pub returns-in_err-close : goal.returns-in_err-close
+returns-in_err-close g c =
+    let docket = docket_closed (view c.args.docket.now) (held c.vacant-offers.result) (held c.catch_up.new.offers) c.args.sheet.now c.vacant-offers.ensures c.in_ok-catch_up.ensures.answer c.catch_up.ensures.after in
+    let p = err_from_is_err_and c.from_residual-in_err-close.result c.from_residual-in_err-close.ensures.1 in
     record {
-      answer = rw (p.1, p.2) (ap (λ o. o.answer) docket ∙ sym c.in-err-close.ensures.answer);
+      answer = rw (p.1, p.2) (ap (λ o. o.answer) docket ∙ sym c.in_err-close.ensures.answer);
       after = c.close.ensures.after ∙ sym (ap (λ o. o.left) docket);
     }
 
 pub returns : goal.returns
 returns g c =
-    let docket = docket_closed (view c.args.docket.now) (held c.vacant-offers.result) (held c.catch_up.new.offers) c.args.sheet.now c.vacant-offers.ensures c.in-ok-catch-up.ensures.answer c.catch_up.ensures.after in
+    let docket = docket_closed (view c.args.docket.now) (held c.vacant-offers.result) (held c.catch_up.new.offers) c.args.sheet.now c.vacant-offers.ensures c.in_ok-catch_up.ensures.answer c.catch_up.ensures.after in
     record {
-      answer = (ap (λ o. o.answer) docket ∙ sym c.in-ok-close.ensures.answer, c.finish.ensures);
+      answer = (ap (λ o. o.answer) docket ∙ sym c.in_ok-close.ensures.answer, c.finish.ensures);
       after = c.close.ensures.after ∙ sym (ap (λ o. o.left) docket);
     }

@@ -5,9 +5,9 @@ use Rattle.sheets.proofs.fields.agrees.Goals as goal
 pub returns-in-Open : goal.returns-in-Open
 returns-in-Open g c =
     agrees-open g.R.Record.layout g.met.R.Record.lawful c.in-Open.mine c.args.record.now c.requires.in_range
-    c.same-as.result c.same-as.ensures c.args.held.now c.in-Open.is c.requires.held-in-range
+    c.same_as.result c.same_as.ensures c.args.held.now c.in-Open.is c.requires.held_in_range
 
 pub returns-in-Withdrawn : goal.returns-in-Withdrawn
 returns-in-Withdrawn g c =
     agrees-withdrawn g.R.Record.layout g.met.R.Record.lawful c.in-Withdrawn.mine c.args.record.now c.requires.in_range
-    c.same-as-in-Withdrawn.result c.same-as-in-Withdrawn.ensures c.args.held.now c.in-Withdrawn.is c.requires.held-in-range
+    c.same_as-in-Withdrawn.result c.same_as-in-Withdrawn.ensures c.args.held.now c.in-Withdrawn.is c.requires.held_in_range

@@ -11,6 +11,6 @@ returns c =
     let body = take_rest sheet 3 in
     let enough : size ≤ length (drop 3 sheet) = rw body at c.if-body-length.false in
     let known = c.in-Some.ensures in
-    let whole = c.if-length-content-length.false ∙ c.content-length.ensures in
+    let whole = c.if-length-content_length.false ∙ c.content_length.ensures in
     let split = split_in_order sheet c.args.byte c.in-Some.kind size (omega arith) (sym known) refl whole enough in
     cc

@@ -8,7 +8,7 @@ pub returns-then-status-ne-WITHDRAWN : goal.returns-then-status-ne-WITHDRAWN
 returns-then-status-ne-WITHDRAWN g c =
     let done =
     took-status g.R.Record.layout c.args.entries.now c.args.last c.args.content.now c.requires.in_range
-    c.tag-byte-tag.result c.tag-byte-tag.ensures c.if-not-has-entry.ensures c.if-not-rises.ensures
+    c.tag_byte-tag.result c.tag_byte-tag.ensures c.if-not-has_entry.ensures c.if-not-rises.ensures
     c.if-status-ne-OPEN.true c.if-status-ne-WITHDRAWN.true
     c.refusal-then-status-ne-WITHDRAWN.result c.refusal-then-status-ne-WITHDRAWN.ensures in
     record { answer = done.answers; after = done.leaves; ranged = done.ranged }
@@ -17,20 +17,20 @@ pub returns-then-field-ne0 : goal.returns-then-field-ne0
 returns-then-field-ne0 g c =
     let done =
     took-outside g.R.Record.layout c.args.entries.now c.args.last c.args.content.now c.requires.in_range
-    c.tag-byte-tag.result c.tag-byte-tag.ensures c.if-not-has-entry.ensures c.if-not-rises.ensures
+    c.tag_byte-tag.result c.tag_byte-tag.ensures c.if-not-has_entry.ensures c.if-not-rises.ensures
     c.else-status-ne-OPEN.either c.read-record.result c.read-record.ensures
     c.fault-field.result c.fault-field.ensures c.if-field-ne0.true
     c.refusal-then-field-ne0.result c.refusal-then-field-ne0.ensures in
     record { answer = done.answers; after = done.leaves; ranged = done.ranged }
 
-pub offset-bounds-entries-at : goal.offset-bounds-entries-at
-offset-bounds-entries-at g c =
-    let place = placed g.R.Record.layout c.args.entries.now (number_in c.args.content.now) c.if-not-has-entry.ensures in
+pub offset_bounds-entries-at : goal.offset_bounds-entries-at
+offset_bounds-entries-at g c =
+    let place = placed g.R.Record.layout c.args.entries.now (number_in c.args.content.now) c.if-not-has_entry.ensures in
     search rules
 
 pub agrees-requires : goal.agrees-requires
 agrees-requires g c = record {
-  held-in-range = entry-in-range g.R.Record.layout c.args.entries.now (number_in c.args.content.now) c.if-not-has-entry.ensures c.index-entries-at.result c.index-entries-at.is c.requires.in_range;
+  held_in_range = entry-in_range g.R.Record.layout c.args.entries.now (number_in c.args.content.now) c.if-not-has_entry.ensures c.index-entries-at.result c.index-entries-at.is c.requires.in_range;
   in_range = sym c.fault-field.ensures ∙ c.if-field-ne0.false;
 }
 
@@ -38,23 +38,23 @@ pub returns-then-not-agrees : goal.returns-then-not-agrees
 returns-then-not-agrees g c =
     let done =
     took-clash g.R.Record.layout c.args.entries.now c.args.last c.args.content.now c.requires.in_range
-    c.tag-byte-tag.result c.tag-byte-tag.ensures c.if-not-has-entry.ensures c.if-not-rises.ensures
+    c.tag_byte-tag.result c.tag_byte-tag.ensures c.if-not-has_entry.ensures c.if-not-rises.ensures
     c.else-status-ne-OPEN.either c.read-record.result c.read-record.ensures
     (sym c.fault-field.ensures ∙ c.if-field-ne0.false)
     c.index-entries-at.result c.index-entries-at.is c.if-not-agrees.ensures
     c.refusal-then-not-agrees.result c.refusal-then-not-agrees.ensures in
     record { answer = done.answers; after = done.leaves; ranged = done.ranged }
 
-pub offset-bounds-entries-at-2 : goal.offset-bounds-entries-at-2
-offset-bounds-entries-at-2 g c =
-    let place = placed g.R.Record.layout c.args.entries.now (number_in c.args.content.now) c.if-not-has-entry.ensures in
+pub offset_bounds-entries-at-2 : goal.offset_bounds-entries-at-2
+offset_bounds-entries-at-2 g c =
+    let place = placed g.R.Record.layout c.args.entries.now (number_in c.args.content.now) c.if-not-has_entry.ensures in
     search rules
 
 pub returns : goal.returns
 returns g c =
     let done =
     took-joined g.R.Record.layout c.args.entries.now c.args.last c.args.content.now c.requires.in_range
-    c.tag-byte-tag.result c.tag-byte-tag.ensures c.if-not-has-entry.ensures c.if-not-rises.ensures
+    c.tag_byte-tag.result c.tag_byte-tag.ensures c.if-not-has_entry.ensures c.if-not-rises.ensures
     c.else-status-ne-OPEN.either c.read-record.result c.read-record.ensures
     (sym c.fault-field.ensures ∙ c.if-field-ne0.false)
     c.index-entries-at.result c.index-entries-at.is c.if-not-agrees.ensures

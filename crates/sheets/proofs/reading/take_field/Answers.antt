@@ -5,57 +5,57 @@ use Rattle.offers.specs.Memory.{held}
 use Rattle.sheets.proofs.Pieces.{size_as, takes}
 use Rattle.sheets.proofs.reading.take_field.Goals as goal
 
-pub take-content-requires : goal.take-content-requires
-take-content-requires c = record {
+pub take_content-requires : goal.take_content-requires
+take_content-requires c = record {
   whole = size_as kind.Package c.args.field.kind _ (sym c.in-Package.is) c.requires;
   in_range = c.args.offers.now.packages_in_range;
 }
 
-pub take-content-requires-in-Band : goal.take-content-requires-in-Band
-take-content-requires-in-Band c = record {
+pub take_content-requires-in-Band : goal.take_content-requires-in-Band
+take_content-requires-in-Band c = record {
   whole = size_as kind.Band c.args.field.kind _ (sym c.in-Band.is) c.requires;
   in_range = c.args.offers.now.bands_in_range;
 }
 
-pub take-content-requires-in-Pair : goal.take-content-requires-in-Pair
-take-content-requires-in-Pair c = record {
+pub take_content-requires-in-Pair : goal.take_content-requires-in-Pair
+take_content-requires-in-Pair c = record {
   whole = size_as kind.Pair c.args.field.kind _ (sym c.in-Pair.is) c.requires;
   in_range = c.args.offers.now.pairs_in_range;
 }
 
-pub take-content-requires-in-Exclusion : goal.take-content-requires-in-Exclusion
-take-content-requires-in-Exclusion c = record {
+pub take_content-requires-in-Exclusion : goal.take_content-requires-in-Exclusion
+take_content-requires-in-Exclusion c = record {
   whole = size_as kind.Exclusion c.args.field.kind _ (sym c.in-Exclusion.is) c.requires;
   in_range = c.args.offers.now.exclusions_in_range;
 }
 
-pub take-content-requires-in-Limit : goal.take-content-requires-in-Limit
-take-content-requires-in-Limit c = record {
+pub take_content-requires-in-Limit : goal.take_content-requires-in-Limit
+take_content-requires-in-Limit c = record {
   whole = size_as kind.Limit c.args.field.kind _ (sym c.in-Limit.is) c.requires;
   in_range = c.args.offers.now.limits_in_range;
 }
 
 pub returns-in-Package : goal.returns-in-Package
 returns-in-Package c =
-    let done = takes (held c.args.offers.now) c.args.last c.args.field.kind kind.Package c.args.field.content.now c.args.field.rest.now _ _ c.in-Package.is c.take-content.ensures.answer c.take-content.ensures.after in
+    let done = takes (held c.args.offers.now) c.args.last c.args.field.kind kind.Package c.args.field.content.now c.args.field.rest.now _ _ c.in-Package.is c.take_content.ensures.answer c.take_content.ensures.after in
     record { answer = done.answers; after = done.leaves }
 
 pub returns-in-Band : goal.returns-in-Band
 returns-in-Band c =
-    let done = takes (held c.args.offers.now) c.args.last c.args.field.kind kind.Band c.args.field.content.now c.args.field.rest.now _ _ c.in-Band.is c.take-content-in-Band.ensures.answer c.take-content-in-Band.ensures.after in
+    let done = takes (held c.args.offers.now) c.args.last c.args.field.kind kind.Band c.args.field.content.now c.args.field.rest.now _ _ c.in-Band.is c.take_content-in-Band.ensures.answer c.take_content-in-Band.ensures.after in
     record { answer = done.answers; after = done.leaves }
 
 pub returns-in-Pair : goal.returns-in-Pair
 returns-in-Pair c =
-    let done = takes (held c.args.offers.now) c.args.last c.args.field.kind kind.Pair c.args.field.content.now c.args.field.rest.now _ _ c.in-Pair.is c.take-content-in-Pair.ensures.answer c.take-content-in-Pair.ensures.after in
+    let done = takes (held c.args.offers.now) c.args.last c.args.field.kind kind.Pair c.args.field.content.now c.args.field.rest.now _ _ c.in-Pair.is c.take_content-in-Pair.ensures.answer c.take_content-in-Pair.ensures.after in
     record { answer = done.answers; after = done.leaves }
 
 pub returns-in-Exclusion : goal.returns-in-Exclusion
 returns-in-Exclusion c =
-    let done = takes (held c.args.offers.now) c.args.last c.args.field.kind kind.Exclusion c.args.field.content.now c.args.field.rest.now _ _ c.in-Exclusion.is c.take-content-in-Exclusion.ensures.answer c.take-content-in-Exclusion.ensures.after in
+    let done = takes (held c.args.offers.now) c.args.last c.args.field.kind kind.Exclusion c.args.field.content.now c.args.field.rest.now _ _ c.in-Exclusion.is c.take_content-in-Exclusion.ensures.answer c.take_content-in-Exclusion.ensures.after in
     record { answer = done.answers; after = done.leaves }
 
 pub returns-in-Limit : goal.returns-in-Limit
 returns-in-Limit c =
-    let done = takes (held c.args.offers.now) c.args.last c.args.field.kind kind.Limit c.args.field.content.now c.args.field.rest.now _ _ c.in-Limit.is c.take-content-in-Limit.ensures.answer c.take-content-in-Limit.ensures.after in
+    let done = takes (held c.args.offers.now) c.args.last c.args.field.kind kind.Limit c.args.field.content.now c.args.field.rest.now _ _ c.in-Limit.is c.take_content-in-Limit.ensures.answer c.take_content-in-Limit.ensures.after in
     record { answer = done.answers; after = done.leaves }

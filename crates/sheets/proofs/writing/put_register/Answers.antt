@@ -9,13 +9,13 @@ use Rattle.sheets.proofs.writing.put_register.Goals.{in-Vacant, in-Open, in-With
 pub loop-entry-init : goal.loop-entry-init
 loop-entry-init g c = (omega arith, put_none _ _)
 
-pub put-field-next-requires : goal.put-field-next-requires
-put-field-next-requires g c =
+pub put_field-next-requires : goal.put_field-next-requires
+put_field-next-requires g c =
     let room = register-room g.R.Record.layout c.args.entries.now c.loop-entry.entry-index c.entry-item.result c.loop-entry-test.true c.entry-item.is in
     record { short = c.requires.short; room = omega (arith, rw c.in-Open.is at room, c.loop-entry.invariant.1.ends) }
 
-pub put-field-next-requires-in-Withdrawn : goal.put-field-next-requires-in-Withdrawn
-put-field-next-requires-in-Withdrawn g c =
+pub put_field-next-requires-in-Withdrawn : goal.put_field-next-requires-in-Withdrawn
+put_field-next-requires-in-Withdrawn g c =
     let room = register-room g.R.Record.layout c.args.entries.now c.loop-entry.entry-index c.entry-item.result c.loop-entry-test.true c.entry-item.is in
     record { short = c.requires.short; room = omega (arith, rw c.in-Withdrawn.is at room, c.loop-entry.invariant.1.ends) }
 
@@ -26,10 +26,10 @@ loop-entry-preserved g c =
     elim c.match-entry.branch [
       | in-Vacant w ↦ rw (w.in-Vacant.is, w.next-is, w.buffer-is) (put_none _ _)
       | in-Open w ↦
-          let put = w.put-field-next.ensures in
+          let put = w.put_field-next.ensures in
           rw (w.in-Open.is, w.next-is, w.buffer-is) (record { ends = put.end; front = put.front; back = put.back })
       | in-Withdrawn w ↦
-          let put = w.put-field-next-in-Withdrawn.ensures in
+          let put = w.put_field-next-in-Withdrawn.ensures in
           rw (w.in-Withdrawn.is, w.next-is, w.buffer-is) (record { ends = put.end; front = put.front; back = put.back })
     ] in (
       omega arith,

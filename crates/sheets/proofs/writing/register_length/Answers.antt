@@ -4,7 +4,7 @@ use Rattle.std.proofs.lemmas.List.{length-append, take_all}
 use Rattle.sheets.specs.Writing.{entry_bytes}
 use Rattle.sheets.proofs.Puts.{length-entry, register-more}
 use Rattle.sheets.proofs.writing.register_length.Goals as goal
-use Rattle.sheets.proofs.writing.register_length.Goals.{in-Vacant, in-default}
+use Rattle.sheets.proofs.writing.register_length.Goals.{in-Vacant, in_default}
 
 pub loop-entry-preserved : goal.loop-entry-preserved
 loop-entry-preserved g c =
@@ -14,9 +14,9 @@ loop-entry-preserved g c =
       | in-Vacant w ↦
           let none : length (entry_bytes k (c.loop-entry.entry-index + 1) c.entry-item.result) ≡ 0 = rw w.in-Vacant.is in
           (omega (arith, more, none, w.bytes-is), omega (arith, w.bytes-is))
-      | in-default w ↦
-          let one = length-entry k g.met.R.Record.lawful (c.loop-entry.entry-index + 1) c.entry-item.result w.in-default.not-Vacant in
-          (omega (arith, more, one, w.bytes-is, w.content-bytes.ensures), omega (arith, w.bytes-is, w.content-bytes.ensures))
+      | in_default w ↦
+          let one = length-entry k g.met.R.Record.lawful (c.loop-entry.entry-index + 1) c.entry-item.result w.in_default.not-Vacant in
+          (omega (arith, more, one, w.bytes-is, w.content_bytes.ensures), omega (arith, w.bytes-is, w.content_bytes.ensures))
     ]
 
 pub returns : goal.returns

@@ -8,13 +8,13 @@ use Rattle.clearing.proofs.Sellings.{Sold, sold-in-all}
 use Rattle.bounds.specs.Parts.{few_digits}
 use Rattle.bounds.proofs.all_in.AllInBoundingRule.consult.Goals as goal
 
-pub overflow-cast-result : goal.overflow-cast-result
-overflow-cast-result c =
+pub overflow_cast-result : goal.overflow_cast-result
+overflow_cast-result c =
     let sold = subst Sold (sym c.sell-sales.ensures) (sold-in-all c.of-all.result.supply c.args.docket.now) in
     omega (arith, ints, sold.income)
 
-pub overflow-sub-result : goal.overflow-sub-result
-overflow-sub-result c =
+pub overflow_sub-result : goal.overflow_sub-result
+overflow_sub-result c =
     let sold = subst Sold (sym c.sell-sales.ensures) (sold-in-all c.of-all.result.supply c.args.docket.now) in
     omega (arith, ints, sold.income, c.least_cost.ensures.low, c.least_cost.ensures.high)
 

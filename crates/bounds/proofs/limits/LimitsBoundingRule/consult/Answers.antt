@@ -14,7 +14,7 @@ use Rattle.bounds.specs.declared.blocks.Block.{Block}
 use Rattle.bounds.specs.Rules.{last_of, fixed, possible, ceiling}
 use Rattle.bounds.specs.Parts.{few_digits}
 use Rattle.bounds.proofs.limits.LimitsBoundingRule.consult.Goals as goal
-use Rattle.bounds.proofs.limits.LimitsBoundingRule.consult.Goals.{else-pairs-kept-via-then-pairs-kept+then-exclusions-kept+else-zones-kept, else-pairs-kept-via-then-pairs-kept+else-exclusions-kept, else-pairs-kept-via-else-pairs-kept}
+use Rattle.bounds.proofs.limits.LimitsBoundingRule.consult.Goals.{else-pairs_kept-via-then-pairs_kept+then-exclusions_kept+else-zones_kept, else-pairs_kept-via-then-pairs_kept+else-exclusions_kept, else-pairs_kept-via-else-pairs_kept}
 
 -- the tests of a block
 abbrev pairs_test : View → Block → Bool
@@ -51,28 +51,28 @@ last-requires c =
     let few = few_digits (view c.args.docket.now) c.args.block (ranged_docket c.args.docket.now) c.requires in
     record { first = few.0; free = few.1 }
 
-pub returns-then-zones-kept : goal.returns-then-zones-kept
-returns-then-zones-kept c =
+pub returns-then-zones_kept : goal.returns-then-zones_kept
+returns-then-zones_kept c =
     let d = c.args.docket.now in
     let b = c.args.block in
     let t = c.of-taken.result in
-    let pairs = pairs-say d b t c.of-taken.ensures c.pairs-kept.result true c.if-pairs-kept.true c.last.result c.of-possible.result c.of-possible.ensures c.last.ensures c.pairs-kept.ensures in
-    let groups = groups-say d b t c.of-taken.ensures c.exclusions-kept.result true c.if-exclusions-kept.true c.exclusions-kept.ensures in
-    let zones = zones-say d b t c.of-taken.ensures c.zones-kept.result true c.if-zones-kept.true c.zones-kept.ensures in
+    let pairs = pairs-say d b t c.of-taken.ensures c.pairs_kept.result true c.if-pairs_kept.true c.last.result c.of-possible.result c.of-possible.ensures c.last.ensures c.pairs_kept.ensures in
+    let groups = groups-say d b t c.of-taken.ensures c.exclusions_kept.result true c.if-exclusions_kept.true c.exclusions_kept.ensures in
+    let zones = zones-say d b t c.of-taken.ensures c.zones_kept.result true c.if-zones_kept.true c.zones_kept.ensures in
     record { answer = sym (cond-true (tested (view d) b) (Some ceiling) None (and_from _ _ pairs (and_from _ _ groups zones))); same = refl }
 
-pub returns-else-pairs-kept : goal.returns-else-pairs-kept
-returns-else-pairs-kept c =
+pub returns-else-pairs_kept : goal.returns-else-pairs_kept
+returns-else-pairs_kept c =
     let d = c.args.docket.now in
     let b = c.args.block in
     let t = c.of-taken.result in
     let fails : tested (view d) b ≡ false =
-    elim c.else-pairs-kept.branch [
-      | else-pairs-kept-via-then-pairs-kept+then-exclusions-kept+else-zones-kept w ↦
-          and_right (pairs_test (view d) b) _ (and_right (groups_test (view d) b) _ (zones-say d b t c.of-taken.ensures w.zones-kept.result false w.if-zones-kept.false w.zones-kept.ensures))
-      | else-pairs-kept-via-then-pairs-kept+else-exclusions-kept w ↦
-          and_right (pairs_test (view d) b) _ (and_left _ _ (groups-say d b t c.of-taken.ensures w.exclusions-kept.result false w.if-exclusions-kept.false w.exclusions-kept.ensures))
-      | else-pairs-kept-via-else-pairs-kept w ↦
-          and_left _ _ (pairs-say d b t c.of-taken.ensures c.pairs-kept.result false w.if-pairs-kept.false c.last.result c.of-possible.result c.of-possible.ensures c.last.ensures c.pairs-kept.ensures)
+    elim c.else-pairs_kept.branch [
+      | else-pairs_kept-via-then-pairs_kept+then-exclusions_kept+else-zones_kept w ↦
+          and_right (pairs_test (view d) b) _ (and_right (groups_test (view d) b) _ (zones-say d b t c.of-taken.ensures w.zones_kept.result false w.if-zones_kept.false w.zones_kept.ensures))
+      | else-pairs_kept-via-then-pairs_kept+else-exclusions_kept w ↦
+          and_right (pairs_test (view d) b) _ (and_left _ _ (groups-say d b t c.of-taken.ensures w.exclusions_kept.result false w.if-exclusions_kept.false w.exclusions_kept.ensures))
+      | else-pairs_kept-via-else-pairs_kept w ↦
+          and_left _ _ (pairs-say d b t c.of-taken.ensures c.pairs_kept.result false w.if-pairs_kept.false c.last.result c.of-possible.result c.of-possible.ensures c.last.ensures c.pairs_kept.ensures)
     ] in
     record { answer = sym (cond-false (tested (view d) b) (Some ceiling) None fails); same = refl }

@@ -8,8 +8,8 @@ use Rattle.clearing.proofs.Ranged.{ranged_docket}
 use Rattle.bounds.specs.Rules.{unlimited, gains}
 use Rattle.bounds.proofs.one_by_one.OneByOneBoundingRule.consult.Goals as goal
 
-pub overflow-add-cap : goal.overflow-add-cap
-overflow-add-cap c =
+pub overflow_add-cap : goal.overflow_add-cap
+overflow_add-cap c =
     let few = (ranged_docket c.args.docket.now).few_packages in
     omega (arith, ints, few, c.requires.few, c.loop-digit.invariant.1, c.loop-digit.invariant.2, c.gain-cap.ensures.low, c.gain-cap.ensures.high)
 
@@ -24,8 +24,8 @@ loop-digit-preserved c =
     let digit = c.loop-digit.digit in
     let few = (ranged_docket c.args.docket.now).few_packages in
     let small : digit < 64 = omega (arith, few, c.requires.few) in
-    let fixed = c.unlimited-surplus-fixed.ensures in
-    let room : SFits w64 c.unlimited-surplus-fixed.result = omega (arith, ints, fixed.low, fixed.high) in
+    let fixed = c.unlimited_surplus-fixed.ensures in
+    let room : SFits w64 c.unlimited_surplus-fixed.result = omega (arith, ints, fixed.low, fixed.high) in
     let gain : c.gain-cap.result ≡ int_max (unlimited v (first + 2 ^ digit) -ℤ unlimited v first) (pos 0) =
     c.gain-cap.ensures.value ∙ ap₂ (λ n z. int_max (unlimited v (first + n) -ℤ z) (pos 0)) (one_shl digit 64 small) (to_z-of_z w64 _ room ∙ fixed.value) in
     let more = gains_more v first digit in

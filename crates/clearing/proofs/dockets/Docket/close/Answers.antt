@@ -10,8 +10,8 @@ use Rattle.clearing.proofs.Pricings.{at_price, priced-all}
 use Rattle.clearing.proofs.Closings.{closing-priced, docket_is}
 use Rattle.clearing.proofs.dockets.Docket.close.Goals as goal
 
-pub invariant-of-self : goal.invariant-of-self
-invariant-of-self g c =
+pub invariant_of-self : goal.invariant_of-self
+invariant_of-self g c =
     let bands = c.args.offers.now.bands in (
       omega arith,
       (
@@ -33,18 +33,18 @@ invariant-of-self g c =
                       (
                         omega arith,
                         (
-                          c.copy-packages.ensures.fit,
+                          c.copy_packages.ensures.fit,
                           (
-                            rw c.copy-bands.ensures.items (bands_rise bands),
+                            rw c.copy_bands.ensures.items (bands_rise bands),
                             (
-                              subst (λ bs. aheads bs ≡ true_aheads bs) (sym c.copy-bands.ensures.items) (bands-ahead bands),
+                              subst (λ bs. aheads bs ≡ true_aheads bs) (sym c.copy_bands.ensures.items) (bands_ahead bands),
                               (
-                                c.copy-bands.ensures.fit,
+                                c.copy_bands.ensures.fit,
                                 (
-                                  c.copy-open.ensures.fit,
+                                  c.copy_open.ensures.fit,
                                   (
-                                    c.copy-open-2.ensures.fit,
-                                    (c.copy-open-3.ensures.fit, tt),
+                                    c.copy_open-2.ensures.fit,
+                                    (c.copy_open-3.ensures.fit, tt),
                                   ),
                                 ),
                               ),
@@ -67,16 +67,16 @@ returns g c =
     let before = view c.args.self.now in
     let all = held c.args.offers.now in
     let meaning = g.P.PriceRule.meaning c.args.rule.now in
-    let prices = c.in-ok-prices.prices in
+    let prices = c.in_ok-prices.prices in
     let ps = map (at_price prices) (open_from 1 all.packages) in
-    let prices-are = priced-all meaning all.packages prices c.in-ok-prices.ensures.answer in
+    let prices-are = priced-all meaning all.packages prices c.in_ok-prices.ensures.answer in
     let made = closing-priced before all meaning ps prices-are in
-    let docket = docket_is _ all ps c.copy-packages.ensures.items c.copy-bands.ensures.items c.copy-open.ensures.items c.copy-open-2.ensures.items c.copy-open-3.ensures.items in
+    let docket = docket_is _ all ps c.copy_packages.ensures.items c.copy_bands.ensures.items c.copy_open.ensures.items c.copy_open-2.ensures.items c.copy_open-3.ensures.items in
     record {
       answer = ap (λ o. o.answer) (sym made);
       after = docket ∙ ap (λ o. o.left) (sym made);
-      same-rule = c.price-all.ensures.same-rule;
-      by-closing = λ _. record {
+      same_rule = c.price_all.ensures.same_rule;
+      by_closing = λ _. record {
         entries = all;
         meaning = meaning;
         sound = sound-held c.args.offers.now;

@@ -48,27 +48,32 @@ returns-in-Limit c =
     let after = subst (λ (x : Offer). with_entries all kind.Limit c.file-in-Limit.new.self.0.now ≡ (file_offer all n x).left) (sym c.in-Limit.is) (ap (with_entries all kind.Limit) c.file-in-Limit.ensures.after) in
     record { answer = answer; after = after; kept = filed_kept all n c.args.offer _ _ answer after }
 
-pub invariant-of-self : goal.invariant-of-self
-invariant-of-self c =
-    let now = c.args.self.now in
-    (ranged_as package_layout _ _ c.file.ensures.after (filing-ranged package_layout now.packages c.args.number now.packages_in_range c.in-Package.new), (now.bands_in_range, (now.pairs_in_range, (now.exclusions_in_range, (now.limits_in_range, (c.file.ensures.moved.as_long ∙ now.packages_numbered, (now.bands_numbered, (now.pairs_numbered, (now.exclusions_numbered, (now.limits_numbered, tt))))))))))
+pub invariant_of-self-clause-packages_in_range : goal.invariant_of-self-clause-packages_in_range
+invariant_of-self-clause-packages_in_range c = ranged_as package_layout _ _ c.file.ensures.after (filing-ranged package_layout c.args.self.now.packages c.args.number c.args.self.now.packages_in_range c.in-Package.new)
 
-pub invariant-of-self-in-Band : goal.invariant-of-self-in-Band
-invariant-of-self-in-Band c =
-    let now = c.args.self.now in
-    (now.packages_in_range, (ranged_as band_layout _ _ c.file-in-Band.ensures.after (filing-ranged band_layout now.bands c.args.number now.bands_in_range c.in-Band.new), (now.pairs_in_range, (now.exclusions_in_range, (now.limits_in_range, (now.packages_numbered, (c.file-in-Band.ensures.moved.as_long ∙ now.bands_numbered, (now.pairs_numbered, (now.exclusions_numbered, (now.limits_numbered, tt))))))))))
+pub invariant_of-self-clause-packages_numbered : goal.invariant_of-self-clause-packages_numbered
+invariant_of-self-clause-packages_numbered c = c.file.ensures.moved.as_long ∙ c.args.self.now.packages_numbered
 
-pub invariant-of-self-in-Pair : goal.invariant-of-self-in-Pair
-invariant-of-self-in-Pair c =
-    let now = c.args.self.now in
-    (now.packages_in_range, (now.bands_in_range, (ranged_as pair_layout _ _ c.file-in-Pair.ensures.after (filing-ranged pair_layout now.pairs c.args.number now.pairs_in_range c.in-Pair.new), (now.exclusions_in_range, (now.limits_in_range, (now.packages_numbered, (now.bands_numbered, (c.file-in-Pair.ensures.moved.as_long ∙ now.pairs_numbered, (now.exclusions_numbered, (now.limits_numbered, tt))))))))))
+pub invariant_of-self-in-Band-clause-bands_in_range : goal.invariant_of-self-in-Band-clause-bands_in_range
+invariant_of-self-in-Band-clause-bands_in_range c = ranged_as band_layout _ _ c.file-in-Band.ensures.after (filing-ranged band_layout c.args.self.now.bands c.args.number c.args.self.now.bands_in_range c.in-Band.new)
 
-pub invariant-of-self-in-Exclusion : goal.invariant-of-self-in-Exclusion
-invariant-of-self-in-Exclusion c =
-    let now = c.args.self.now in
-    (now.packages_in_range, (now.bands_in_range, (now.pairs_in_range, (ranged_as exclusion_layout _ _ c.file-in-Exclusion.ensures.after (filing-ranged exclusion_layout now.exclusions c.args.number now.exclusions_in_range c.in-Exclusion.new), (now.limits_in_range, (now.packages_numbered, (now.bands_numbered, (now.pairs_numbered, (c.file-in-Exclusion.ensures.moved.as_long ∙ now.exclusions_numbered, (now.limits_numbered, tt))))))))))
+pub invariant_of-self-in-Band-clause-bands_numbered : goal.invariant_of-self-in-Band-clause-bands_numbered
+invariant_of-self-in-Band-clause-bands_numbered c = c.file-in-Band.ensures.moved.as_long ∙ c.args.self.now.bands_numbered
 
-pub invariant-of-self-in-Limit : goal.invariant-of-self-in-Limit
-invariant-of-self-in-Limit c =
-    let now = c.args.self.now in
-    (now.packages_in_range, (now.bands_in_range, (now.pairs_in_range, (now.exclusions_in_range, (ranged_as limit_layout _ _ c.file-in-Limit.ensures.after (filing-ranged limit_layout now.limits c.args.number now.limits_in_range c.in-Limit.new), (now.packages_numbered, (now.bands_numbered, (now.pairs_numbered, (now.exclusions_numbered, (c.file-in-Limit.ensures.moved.as_long ∙ now.limits_numbered, tt))))))))))
+pub invariant_of-self-in-Pair-clause-pairs_in_range : goal.invariant_of-self-in-Pair-clause-pairs_in_range
+invariant_of-self-in-Pair-clause-pairs_in_range c = ranged_as pair_layout _ _ c.file-in-Pair.ensures.after (filing-ranged pair_layout c.args.self.now.pairs c.args.number c.args.self.now.pairs_in_range c.in-Pair.new)
+
+pub invariant_of-self-in-Pair-clause-pairs_numbered : goal.invariant_of-self-in-Pair-clause-pairs_numbered
+invariant_of-self-in-Pair-clause-pairs_numbered c = c.file-in-Pair.ensures.moved.as_long ∙ c.args.self.now.pairs_numbered
+
+pub invariant_of-self-in-Exclusion-clause-exclusions_in_range : goal.invariant_of-self-in-Exclusion-clause-exclusions_in_range
+invariant_of-self-in-Exclusion-clause-exclusions_in_range c = ranged_as exclusion_layout _ _ c.file-in-Exclusion.ensures.after (filing-ranged exclusion_layout c.args.self.now.exclusions c.args.number c.args.self.now.exclusions_in_range c.in-Exclusion.new)
+
+pub invariant_of-self-in-Exclusion-clause-exclusions_numbered : goal.invariant_of-self-in-Exclusion-clause-exclusions_numbered
+invariant_of-self-in-Exclusion-clause-exclusions_numbered c = c.file-in-Exclusion.ensures.moved.as_long ∙ c.args.self.now.exclusions_numbered
+
+pub invariant_of-self-in-Limit-clause-limits_in_range : goal.invariant_of-self-in-Limit-clause-limits_in_range
+invariant_of-self-in-Limit-clause-limits_in_range c = ranged_as limit_layout _ _ c.file-in-Limit.ensures.after (filing-ranged limit_layout c.args.self.now.limits c.args.number c.args.self.now.limits_in_range c.in-Limit.new)
+
+pub invariant_of-self-in-Limit-clause-limits_numbered : goal.invariant_of-self-in-Limit-clause-limits_numbered
+invariant_of-self-in-Limit-clause-limits_numbered c = c.file-in-Limit.ensures.moved.as_long ∙ c.args.self.now.limits_numbered

@@ -48,27 +48,32 @@ returns-in-Limit c =
     let after = subst (λ (k : Kind). with_entries all kind.Limit c.withdraw-in-Limit.new.self.0.now ≡ (withdraw_offer all k n).left) (sym c.in-Limit.is) (ap (with_entries all kind.Limit) c.withdraw-in-Limit.ensures.after) in
     record { answer = answer; after = after; kept = withdrawn_kept all c.args.kind n _ _ answer after }
 
-pub invariant-of-self : goal.invariant-of-self
-invariant-of-self c =
-    let now = c.args.self.now in
-    (ranged_as package_layout _ _ c.withdraw.ensures.after (withdrawing-ranged package_layout now.packages c.args.number now.packages_in_range), (now.bands_in_range, (now.pairs_in_range, (now.exclusions_in_range, (now.limits_in_range, (c.withdraw.ensures.moved.as_long ∙ now.packages_numbered, (now.bands_numbered, (now.pairs_numbered, (now.exclusions_numbered, (now.limits_numbered, tt))))))))))
+pub invariant_of-self-clause-packages_in_range : goal.invariant_of-self-clause-packages_in_range
+invariant_of-self-clause-packages_in_range c = ranged_as package_layout _ _ c.withdraw.ensures.after (withdrawing-ranged package_layout c.args.self.now.packages c.args.number c.args.self.now.packages_in_range)
 
-pub invariant-of-self-in-Band : goal.invariant-of-self-in-Band
-invariant-of-self-in-Band c =
-    let now = c.args.self.now in
-    (now.packages_in_range, (ranged_as band_layout _ _ c.withdraw-in-Band.ensures.after (withdrawing-ranged band_layout now.bands c.args.number now.bands_in_range), (now.pairs_in_range, (now.exclusions_in_range, (now.limits_in_range, (now.packages_numbered, (c.withdraw-in-Band.ensures.moved.as_long ∙ now.bands_numbered, (now.pairs_numbered, (now.exclusions_numbered, (now.limits_numbered, tt))))))))))
+pub invariant_of-self-clause-packages_numbered : goal.invariant_of-self-clause-packages_numbered
+invariant_of-self-clause-packages_numbered c = c.withdraw.ensures.moved.as_long ∙ c.args.self.now.packages_numbered
 
-pub invariant-of-self-in-Pair : goal.invariant-of-self-in-Pair
-invariant-of-self-in-Pair c =
-    let now = c.args.self.now in
-    (now.packages_in_range, (now.bands_in_range, (ranged_as pair_layout _ _ c.withdraw-in-Pair.ensures.after (withdrawing-ranged pair_layout now.pairs c.args.number now.pairs_in_range), (now.exclusions_in_range, (now.limits_in_range, (now.packages_numbered, (now.bands_numbered, (c.withdraw-in-Pair.ensures.moved.as_long ∙ now.pairs_numbered, (now.exclusions_numbered, (now.limits_numbered, tt))))))))))
+pub invariant_of-self-in-Band-clause-bands_in_range : goal.invariant_of-self-in-Band-clause-bands_in_range
+invariant_of-self-in-Band-clause-bands_in_range c = ranged_as band_layout _ _ c.withdraw-in-Band.ensures.after (withdrawing-ranged band_layout c.args.self.now.bands c.args.number c.args.self.now.bands_in_range)
 
-pub invariant-of-self-in-Exclusion : goal.invariant-of-self-in-Exclusion
-invariant-of-self-in-Exclusion c =
-    let now = c.args.self.now in
-    (now.packages_in_range, (now.bands_in_range, (now.pairs_in_range, (ranged_as exclusion_layout _ _ c.withdraw-in-Exclusion.ensures.after (withdrawing-ranged exclusion_layout now.exclusions c.args.number now.exclusions_in_range), (now.limits_in_range, (now.packages_numbered, (now.bands_numbered, (now.pairs_numbered, (c.withdraw-in-Exclusion.ensures.moved.as_long ∙ now.exclusions_numbered, (now.limits_numbered, tt))))))))))
+pub invariant_of-self-in-Band-clause-bands_numbered : goal.invariant_of-self-in-Band-clause-bands_numbered
+invariant_of-self-in-Band-clause-bands_numbered c = c.withdraw-in-Band.ensures.moved.as_long ∙ c.args.self.now.bands_numbered
 
-pub invariant-of-self-in-Limit : goal.invariant-of-self-in-Limit
-invariant-of-self-in-Limit c =
-    let now = c.args.self.now in
-    (now.packages_in_range, (now.bands_in_range, (now.pairs_in_range, (now.exclusions_in_range, (ranged_as limit_layout _ _ c.withdraw-in-Limit.ensures.after (withdrawing-ranged limit_layout now.limits c.args.number now.limits_in_range), (now.packages_numbered, (now.bands_numbered, (now.pairs_numbered, (now.exclusions_numbered, (c.withdraw-in-Limit.ensures.moved.as_long ∙ now.limits_numbered, tt))))))))))
+pub invariant_of-self-in-Pair-clause-pairs_in_range : goal.invariant_of-self-in-Pair-clause-pairs_in_range
+invariant_of-self-in-Pair-clause-pairs_in_range c = ranged_as pair_layout _ _ c.withdraw-in-Pair.ensures.after (withdrawing-ranged pair_layout c.args.self.now.pairs c.args.number c.args.self.now.pairs_in_range)
+
+pub invariant_of-self-in-Pair-clause-pairs_numbered : goal.invariant_of-self-in-Pair-clause-pairs_numbered
+invariant_of-self-in-Pair-clause-pairs_numbered c = c.withdraw-in-Pair.ensures.moved.as_long ∙ c.args.self.now.pairs_numbered
+
+pub invariant_of-self-in-Exclusion-clause-exclusions_in_range : goal.invariant_of-self-in-Exclusion-clause-exclusions_in_range
+invariant_of-self-in-Exclusion-clause-exclusions_in_range c = ranged_as exclusion_layout _ _ c.withdraw-in-Exclusion.ensures.after (withdrawing-ranged exclusion_layout c.args.self.now.exclusions c.args.number c.args.self.now.exclusions_in_range)
+
+pub invariant_of-self-in-Exclusion-clause-exclusions_numbered : goal.invariant_of-self-in-Exclusion-clause-exclusions_numbered
+invariant_of-self-in-Exclusion-clause-exclusions_numbered c = c.withdraw-in-Exclusion.ensures.moved.as_long ∙ c.args.self.now.exclusions_numbered
+
+pub invariant_of-self-in-Limit-clause-limits_in_range : goal.invariant_of-self-in-Limit-clause-limits_in_range
+invariant_of-self-in-Limit-clause-limits_in_range c = ranged_as limit_layout _ _ c.withdraw-in-Limit.ensures.after (withdrawing-ranged limit_layout c.args.self.now.limits c.args.number c.args.self.now.limits_in_range)
+
+pub invariant_of-self-in-Limit-clause-limits_numbered : goal.invariant_of-self-in-Limit-clause-limits_numbered
+invariant_of-self-in-Limit-clause-limits_numbered c = c.withdraw-in-Limit.ensures.moved.as_long ∙ c.args.self.now.limits_numbered

@@ -15,37 +15,37 @@ module _ (below product : ℤ) (rate : ℕ)
   product-fits : SFits w64 (to_z w64 (of_z w64 below) *ℤ to_z w64 (of_z w64 product))
   product-fits = rw product-read (omega (arith, ints, product_span below rate 20000000000 220000000 span most))
 
-pub overflow-mul-below : goal.overflow-mul-below
-overflow-mul-below g c =
+pub overflow_mul-below : goal.overflow_mul-below
+overflow_mul-below g c =
     let rates = c.args.self.now.rates in
     let rate = rates.preference * rates.expectation in
     let most : rate ≤ 220000000 = omega (arith, ints) in
     let priced = g.P.PriceRule.meaning c.args.self.now.below c.args.package.now in
-    let came : Ok c.in-ok-below.below ≡ priced = search rules in
+    let came : Ok c.in_ok-below.below ≡ priced = search rules in
     let bounded = g.met.P.PriceRule.bounded c.args.self.now.below c.args.package.now in
     let span = price_span priced came bounded in
-    product-fits c.in-ok-below.below c.product.result rate span c.product.ensures.value most
+    product-fits c.in_ok-below.below c.product.result rate span c.product.ensures.value most
 
 pub returns-then-package-eq1 : goal.returns-then-package-eq1
 returns-then-package-eq1 g c =
     let rates = c.args.self.now.rates in
     let rate = rates.preference * rates.expectation in
-    let below = c.in-ok-below.below in
+    let below = c.in_ok-below.below in
     let product = c.product.result in
     let most : rate ≤ 220000000 = omega (arith, ints) in
     let priced = g.P.PriceRule.meaning c.args.self.now.below c.args.package.now in
-    let came : Ok c.in-ok-below.below ≡ priced = search rules in
+    let came : Ok c.in_ok-below.below ≡ priced = search rules in
     let bounded = g.met.P.PriceRule.bounded c.args.self.now.below c.args.package.now in
     let span = price_span priced came bounded in
     let fits = product-fits below product rate span c.product.ensures.value most in
     let read = product-read below product rate span c.product.ensures.value most in
-    let out : SFits w64 c.round-up.result = search rules in
+    let out : SFits w64 c.round_up.result = search rules in
     record {
       answer =
           c.checked.ensures
           ∙ rw (
-            to_z-of_z w64 c.round-up.result out,
-            c.round-up.ensures.value,
+            to_z-of_z w64 c.round_up.result out,
+            c.round_up.ensures.value,
             to_z-of_z w64 _ fits,
             read,
             c.depth-depth.ensures,
@@ -54,6 +54,6 @@ returns-then-package-eq1 g c =
           );
       same =
           ap₂ (λ m depth p. currency_price rates.preference rates.expectation (above depth) (m p) p)
-          c.price.ensures.same c.price.ensures.same-level;
-      same-level = ap above c.price.ensures.same-level;
+          c.price.ensures.same c.price.ensures.same_level;
+      same_level = ap above c.price.ensures.same_level;
     }

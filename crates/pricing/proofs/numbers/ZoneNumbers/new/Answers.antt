@@ -28,7 +28,7 @@ loop-number-preserved c =
     let turn = zone_turn i ns (omega arith) ∙ ap (λ b. b && zone_numbers (drop (i + 1) ns)) inside in
     sym turn ∙ c.loop-number.invariant
 
-pub invariant-of-result : goal.invariant-of-result
-invariant-of-result c =
+pub invariant_of-result : goal.invariant_of-result
+invariant_of-result c =
     let past = at_drop_all zone_numbers c.args.numbers c.loop-number.number-index (omega arith) in
     (sym c.loop-number.invariant ∙ past, tt)

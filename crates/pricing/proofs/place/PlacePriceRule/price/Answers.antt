@@ -39,43 +39,43 @@ module _ (zones : ZoneNumbers) (place : ℕ) (number : ℤ) (energy : ℕ)
     sum_fits : SFits w64 (to_z w64 (of_z w64 below) +ℤ to_z w64 (of_z w64 (to_z w64 (of_z w64 number) *ℤ to_z w64 energy)))
     sum_fits = rw sum_read (omega (arith, ints, product-near))
 
-pub overflow-mul-number : goal.overflow-mul-number
-overflow-mul-number g c =
-    product-fits c.args.self.now.numbers _ c.of-zone-number.result c.args.package.now.energy
-    c.of-zone-number.ensures (search rules)
+pub overflow_mul-number : goal.overflow_mul-number
+overflow_mul-number g c =
+    product-fits c.args.self.now.numbers _ c.of_zone-number.result c.args.package.now.energy
+    c.of_zone-number.ensures (search rules)
 
-pub overflow-add-below : goal.overflow-add-below
-overflow-add-below g c =
+pub overflow_add-below : goal.overflow_add-below
+overflow_add-below g c =
     let priced = g.P.PriceRule.meaning c.args.self.now.below c.args.package.now in
-    let came : Ok c.in-ok-below.below ≡ priced = search rules in
+    let came : Ok c.in_ok-below.below ≡ priced = search rules in
     let bounded = g.met.P.PriceRule.bounded c.args.self.now.below c.args.package.now in
-    sum_fits c.args.self.now.numbers _ c.of-zone-number.result c.args.package.now.energy
-    c.of-zone-number.ensures (search rules) c.in-ok-below.below
+    sum_fits c.args.self.now.numbers _ c.of_zone-number.result c.args.package.now.energy
+    c.of_zone-number.ensures (search rules) c.in_ok-below.below
     (price_span priced came bounded)
 
 pub returns : goal.returns
 returns g c =
     let zones = c.args.self.now.numbers in
-    let number = c.of-zone-number.result in
+    let number = c.of_zone-number.result in
     let energy = c.args.package.now.energy in
-    let below = c.in-ok-below.below in
+    let below = c.in_ok-below.below in
     let room : energy < 2 ^ 32 = search rules in
     let priced = g.P.PriceRule.meaning c.args.self.now.below c.args.package.now in
-    let came : Ok c.in-ok-below.below ≡ priced = search rules in
+    let came : Ok c.in_ok-below.below ≡ priced = search rules in
     let bounded = g.met.P.PriceRule.bounded c.args.self.now.below c.args.package.now in
     let span = price_span priced came bounded in
-    let fits = sum_fits zones _ number energy c.of-zone-number.ensures room below span in
-    let read = sum_read zones _ number energy c.of-zone-number.ensures room below span in
+    let fits = sum_fits zones _ number energy c.of_zone-number.ensures room below span in
+    let read = sum_read zones _ number energy c.of_zone-number.ensures room below span in
     record {
       answer =
           c.checked.ensures
           ∙ rw (
             to_z-of_z w64 _ fits,
             read,
-            c.of-zone-number.ensures,
+            c.of_zone-number.ensures,
             c.depth-depth.ensures,
             ← came,
           );
       same = search rules;
-      same-level = search rules;
+      same_level = search rules;
     }

@@ -23,15 +23,15 @@ returns-clause-writes g c plain ok =
     let bands = lines_of band_line (vec_items r.bands) in
     let start = c.args.f.now in
     let opened = c.writeln.new.self in
-    let listed = c.write-packages.new.f in
-    let sold = c.write-bands.new.f in
+    let listed = c.write_packages.new.f in
+    let sold = c.write_bands.new.f in
     let end = c.writeln-2.new.self in
     let fits : SFits w64 r.surplus = search rules in
     writes_both took start (open_line r) opened (packages ++ (bands ++ surplus_line r.surplus)) end
-    (λ p. c.in-ok-writeln.ensures.shows p (refl {a = true}))
+    (λ p. c.in_ok-writeln.ensures.shows p (refl {a = true}))
     (writes_both took opened packages listed (bands ++ surplus_line r.surplus) end
-    (λ p. subst (λ xs. HasWritten took opened (lines_of package_line xs) listed) c.deref.ensures.value (c.in-ok-write-packages.ensures p (refl {a = true})))
+    (λ p. subst (λ xs. HasWritten took opened (lines_of package_line xs) listed) c.deref.ensures.value (c.in_ok-write_packages.ensures p (refl {a = true})))
     (writes_both took listed bands sold (surplus_line r.surplus) end
-    (λ p. subst (λ xs. HasWritten took listed (lines_of band_line xs) sold) c.deref-2.ensures.value (c.in-ok-write-bands.ensures p (refl {a = true})))
+    (λ p. subst (λ xs. HasWritten took listed (lines_of band_line xs) sold) c.deref-2.ensures.value (c.in_ok-write_bands.ensures p (refl {a = true})))
     (λ p. subst (λ z. HasWritten took sold (surplus_line z) end) (to_z-of_z w64 r.surplus fits) (c.writeln-2.ensures.writes p ok))))
     plain
