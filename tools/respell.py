@@ -15,7 +15,7 @@ CRATES = "crates"
 STD = set("length take drop map get_or set replicate sum reverse append min max pow mul add sub div mod cond not".split())
 TOKEN = re.compile(r"[^\s(){}\[\];,.]+")
 TOP = re.compile(r"^((?:abbrev |unfoldable |pub |data |record |ruleset )*)([^\s:(){}]+)(?: [({].*)? ?:(?= )", re.M)
-LOCAL = re.compile(r"^    ([^\s:(){}|]+) : ", re.M)
+LOCAL = re.compile(r"^ +((?:abbrev |unfoldable |pub )*)([^\s:(){}|]+)(?: [({].*)? ?:(?= )", re.M)
 ALIAS = re.compile(r" as ([a-z][^\s,}]*)[,}]")
 FIELD = re.compile(r"^  (?:pub )?([^\s:(){}|]+) : ", re.M)
 
@@ -47,7 +47,9 @@ def own_names():
             (words if re.search(r"abbrev|unfoldable|record|data", m.group(1)) else lemmas).add(name)
         for block in re.finditer(r"^(?:pub )?record .* where\n((?:  .*\n|\n)*)", t, re.M):
             words |= {m.group(1) for m in FIELD.finditer(block.group(1))}
-        lemmas |= {m.group(1) for m in LOCAL.finditer(t)} - goals
+        for m in LOCAL.finditer(t):
+            if m.group(2) not in goals | {"let", "in", "elim"}:
+                (words if re.search(r"abbrev|unfoldable", m.group(1)) else lemmas).add(m.group(2))
     for t in texts + [read(p) for p in files(".rt")]:
         words |= {m.group(1) for m in ALIAS.finditer(t)}
     return words, lemmas - words

@@ -20,7 +20,7 @@ use Rattle.bounds.specs.declared.blocks.Block.{Block}
 use Rattle.bounds.specs.Blocks.{InDocket, InBlock, Claims}
 use Rattle.bounds.specs.Rules.{last_of, fixed, possible, ceiling, always, all_in, limits_kept, smaller}
 use Rattle.bounds.specs.Costs.{cost-least}
-use Rattle.bounds.specs.Parts.{first_part, last-part}
+use Rattle.bounds.specs.Parts.{first_part, last_part}
 
 -- a cap below two others holds where they do, and none where either does
 pub smaller-sound : (v : View) (b : Block) (one other : Option ℤ) → Claims v b one → Claims v b other → Claims v b (smaller one other)
@@ -54,9 +54,9 @@ module _ (v : View) (ranged : Ranged v) where
 
   module _ (b : Block) (block : InDocket v b) where
     -- a choice of a block earns no more than the last with filled sales, and costs no less than is counted
-    pub all-in-sound : Claims v b (all_in v b)
-    all-in-sound choice sales inside lawful =
-        let more = last-part v b block choice inside in
+    pub all_in-sound : Claims v b (all_in v b)
+    all_in-sound choice sales inside lawful =
+        let more = last_part v b block choice inside in
         let best = best-filled v (last_of b) ranged.order ranged.bands in
         let income = best.most 1 (omega arith) sales (parts_of_one v.bands sales lawful.within_quantities) (λ m. omega (arith, le_trans (lawful.within_supply m) (more.less _))) in
         omega (arith, ints, income, cost-least v b block choice inside)
@@ -66,7 +66,7 @@ module _ (v : View) (ranged : Ranged v) where
         → (pairs_met v.pairs (fixed v b) (possible v b) && (groups_apart v.exclusions (fixed v b) && zones_within v.limits (fixed v b))) ≡ true
     passed choice sales inside lawful =
         let less = first_part v b block choice inside in
-        let more = last-part v b block choice inside in
+        let more = last_part v b block choice inside in
         let zones = (all_both _ _ v.limits).1 (lawful.interconnection, lawful.export) in
         and_from _ _
         ((pairs_tell v.pairs (fixed v b) (possible v b)).1 (All-weaker _ _ (λ p needs has. more.among p.needed (needs (less.among p.dependent has))) v.pairs lawful.pairs))

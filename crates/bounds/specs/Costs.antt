@@ -14,7 +14,7 @@ use Rattle.clearing.proofs.Fits.{PricedRanges}
 use Rattle.bounds.specs.declared.blocks.Block.{Block}
 use Rattle.bounds.specs.Blocks.{InDocket, InBlock}
 use Rattle.bounds.specs.Rules.{fixed, free_ones, below_zero}
-use Rattle.bounds.specs.Parts.{lowest, fixed-digits, first-is, free-digits, choice-is}
+use Rattle.bounds.specs.Parts.{lowest, fixed_digits, first_is, free_digits, choice_is}
 
 -- a price, if its package is taken
 abbrev pub price_if : Bool → ℤ → ℤ
@@ -70,13 +70,13 @@ least-is (suc k) q r low (p ∷ ps) =
 module _ (v : View) (b : Block) (block : InDocket v b) where
   -- what a block of a docket costs at least, by its first choice
   pub least_first : least_cost b.free b.first v.packages ≡ cost (fixed v b) +ℤ below_zero (free_ones v b)
-  least_first = rw (first-is v b block) at (least-is b.free (fixed-digits v b block) 0 (pow_pos b.free) v.packages)
+  least_first = rw (first_is v b block) at (least-is b.free (fixed_digits v b block) 0 (pow_pos b.free) v.packages)
 
   -- each of its choices costs no less
   pub cost-least : (choice : ℕ) → InBlock b choice → (cost (fixed v b) +ℤ below_zero (free_ones v b)) ≤ℤ cost (taken v.packages choice)
   cost-least choice inside =
-      let same = least-is b.free (fixed-digits v b block) (choice - b.first) (free-digits v b block choice inside) v.packages in
-      omega (arith, ints, rw (choice-is v b block choice inside, first-is v b block) at same, least-most b.free choice v.packages)
+      let same = least-is b.free (fixed_digits v b block) (choice - b.first) (free_digits v b block choice inside) v.packages in
+      omega (arith, ints, rw (choice_is v b block choice inside, first_is v b block) at same, least-most b.free choice v.packages)
 
 -- The packages before a place counted: no more than the greatest price for each, either way, and with what is left the whole.
 pub record Counted (b : Block) (items : List PricedPackage) (i : ℕ) (so_far : ℤ) (digits : ℕ) : Type 0 where
@@ -92,8 +92,8 @@ module _ (b : Block) (items : List PricedPackage) where
       record { low = omega (arith, ints); high = omega (arith, ints); whole = omega (arith, ints, all) }
 
   -- at the end all are
-  pub counted-all : (i : ℕ) (so_far : ℤ) (digits : ℕ) → length items ≤ i → Counted b items i so_far digits → so_far ≡ least_cost b.free b.first items
-  counted-all i so_far digits past now =
+  pub counted_all : (i : ℕ) (so_far : ℤ) (digits : ℕ) → length items ≤ i → Counted b items i so_far digits → so_far ≡ least_cost b.free b.first items
+  counted_all i so_far digits past now =
       omega (arith, ints, now.whole, at_drop_all (least_cost (b.free - i) digits) items i past)
 
   module _ (i : ℕ) (so_far : ℤ) (digits : ℕ) (d : PricedPackage) (inside : i < length items) (now : Counted b items i so_far digits)
@@ -105,8 +105,8 @@ module _ (b : Block) (items : List PricedPackage) where
         ∙ ap (λ k. least_cost k digits (slice_index_or items i d ∷ drop (i + 1) items)) is
 
     -- a free package counts what is below 0 of its price
-    pub counted-free : i < b.free → next ≡ so_far +ℤ int_min (get_or items i d).price (pos 0) → Counted b items (i + 1) next (digits / 2)
-    counted-free free is =
+    pub counted_free : i < b.free → next ≡ so_far +ℤ int_min (get_or items i d).price (pos 0) → Counted b items (i + 1) next (digits / 2)
+    counted_free free is =
         let first = first_left (suc (b.free - (i + 1))) (omega arith) in
         record {
           low = omega (arith, ints, clamps, now.low, ranges.price_least);

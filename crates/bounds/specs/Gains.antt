@@ -66,9 +66,9 @@ module _ (v : View) (ranged : Ranged v) (b : Block) (block : InDocket v b) where
       rw first at (taken_more i q r low v.packages (omega (arith, block.few)))
 
   -- it is worth no more to the choice than to the first one, which takes less
-  worth-more : (i r : ℕ) → i < b.free → r < 2 ^ i
+  worth_more : (i r : ℕ) → i < b.free → r < 2 ^ i
       → (unlimited v (b.first + (r + 2 ^ i)) +ℤ unlimited v b.first) ≤ℤ (unlimited v (b.first + r) +ℤ unlimited v (b.first + 2 ^ i))
-  worth-more i r free low =
+  worth_more i r free low =
       let p = get_or v.packages i no_package in
       let ps = v.packages in
       let added = one_more i r free low in
@@ -93,12 +93,12 @@ module _ (v : View) (ranged : Ranged v) (b : Block) (block : InDocket v b) where
       let twice = pow-succ' 2 k in
       let rest : r - 2 ^ k < 2 ^ k = omega arith in
       let whole : r - 2 ^ k + 2 ^ k ≡ r = omega arith in
-      omega (arith, ints, clamps, worth-gains k (r - 2 ^ k) (omega arith) rest, rw whole at (worth-more k (r - 2 ^ k) few rest)))
+      omega (arith, ints, clamps, worth-gains k (r - 2 ^ k) (omega arith) rest, rw whole at (worth_more k (r - 2 ^ k) few rest)))
       (cases_lt r (2 ^ k))
 
   -- with any sales
-  pub one-by-one-sound : Claims v b (one_by_one v b)
-  one-by-one-sound choice sales inside lawful =
+  pub one_by_one-sound : Claims v b (one_by_one v b)
+  one_by_one-sound choice sales inside lawful =
       let same : b.first + (choice - b.first) ≡ choice = omega (arith, inside.from) in
       let most = rw same at (worth-gains b.free (choice - b.first) (omega arith) (omega (arith, inside.below, inside.from))) in
       omega (arith, ints, filled-most v ranged choice sales lawful, most)

@@ -23,15 +23,15 @@ part_same xs = record { less = λ f. omega arith; among = λ n has. has }
 
 module _ (p : PricedPackage) (xs ys : List PricedPackage) (part : Part xs ys) where
   -- of one more
-  part-more : Part xs (p ∷ ys)
-  part-more = record {
+  part_more : Part xs (p ∷ ys)
+  part_more = record {
     less = λ f. omega (arith, part.less f);
     among = λ n has. or_right (p.number == n) (has_number n ys) (part.among n has);
   }
 
   -- and so with the same one more
-  part-both : Part (p ∷ xs) (p ∷ ys)
-  part-both = record {
+  part_both : Part (p ∷ xs) (p ∷ ys)
+  part_both = record {
     less = λ f. omega (arith, part.less f);
     among = λ n has.
         ⊎_elim (or_left (p.number == n) (has_number n ys))
@@ -40,11 +40,11 @@ module _ (p : PricedPackage) (xs ys : List PricedPackage) (part : Part xs ys) wh
   }
 
   -- and with one more to each that takes it, if it is taken by the others where by these
-  part-next : (one other : Bool) → (one ≡ true → other ≡ true) → Part (cond one (p ∷ xs) xs) (cond other (p ∷ ys) ys)
-  part-next true true so = part-both
-  part-next true false so = absurd (true≢false (sym (so refl)))
-  part-next false true so = part-more
-  part-next false false so = part
+  part_next : (one other : Bool) → (one ≡ true → other ≡ true) → Part (cond one (p ∷ xs) xs) (cond other (p ∷ ys) ys)
+  part_next true true so = part_both
+  part_next true false so = absurd (true≢false (sym (so refl)))
+  part_next false true so = part_more
+  part_next false false so = part
 
 -- what the lowest digit of a choice is, and the choice without it, with one free digit more than so many
 pub lowest : (q k r : ℕ) → ((q * 2 ^ suc k + r) % 2 ≡ r % 2) × ((q * 2 ^ suc k + r) / 2 ≡ q * 2 ^ k + r / 2)
@@ -65,41 +65,41 @@ taken_part (suc k) q r s low high ends (p ∷ ps) =
     let one = lowest q k r in
     let other = lowest q k s in
     rw (one.0, one.1, other.0, other.1)
-    (part-next p _ _ (taken_part k q (r / 2) (s / 2) (omega arith) (omega arith) halves ps) _ _
+    (part_next p _ _ (taken_part k q (r / 2) (s / 2) (omega arith) (omega arith) halves ps) _ _
     (λ e. eq-eqb (s % 2) 1 (digit (eqb-true (r % 2) 1 e))))
 
 module _ (v : View) (b : Block) (block : InDocket v b) where
   -- the digits of a block that are not free
-  abbrev pub fixed-digits : ℕ
-  fixed-digits = b.first / 2 ^ b.free
+  abbrev pub fixed_digits : ℕ
+  fixed_digits = b.first / 2 ^ b.free
 
   -- its first choice is those and a 0 for each free digit
-  pub first-is : fixed-digits * 2 ^ b.free + 0 ≡ b.first
-  first-is = omega (arith, div-add-mod' b.first (2 ^ b.free), block.zeros)
+  pub first_is : fixed_digits * 2 ^ b.free + 0 ≡ b.first
+  first_is = omega (arith, div-add-mod' b.first (2 ^ b.free), block.zeros)
 
   -- its last has a 1 for each
-  pub last-is : fixed-digits * 2 ^ b.free + (2 ^ b.free - 1) ≡ last_of b
-  last-is = omega (arith, first-is)
+  pub last_is : fixed_digits * 2 ^ b.free + (2 ^ b.free - 1) ≡ last_of b
+  last_is = omega (arith, first_is)
 
   module _ (choice : ℕ) (inside : InBlock b choice) where
     -- the free digits of a choice
-    pub free-digits : choice - b.first < 2 ^ b.free
-    free-digits = omega (arith, inside.below, inside.from, pow_pos b.free)
+    pub free_digits : choice - b.first < 2 ^ b.free
+    free_digits = omega (arith, inside.below, inside.from, pow_pos b.free)
 
     -- any choice of it is those that are not free and any others
-    pub choice-is : fixed-digits * 2 ^ b.free + (choice - b.first) ≡ choice
-    choice-is = omega (arith, first-is, inside.from)
+    pub choice_is : fixed_digits * 2 ^ b.free + (choice - b.first) ≡ choice
+    choice_is = omega (arith, first_is, inside.from)
 
     -- it takes what the first takes
     pub first_part : Part (fixed v b) (taken v.packages choice)
     first_part =
-        rw (first-is, choice-is) at (taken_part b.free fixed-digits 0 (choice - b.first) (pow_pos b.free) free-digits (inl refl) v.packages)
+        rw (first_is, choice_is) at (taken_part b.free fixed_digits 0 (choice - b.first) (pow_pos b.free) free_digits (inl refl) v.packages)
 
     -- and the last takes what it takes
-    pub last-part : Part (taken v.packages choice) (possible v b)
-    last-part =
+    pub last_part : Part (taken v.packages choice) (possible v b)
+    last_part =
         let some = pow_pos b.free in
-        rw (choice-is, last-is) at (taken_part b.free fixed-digits (choice - b.first) (2 ^ b.free - 1) free-digits (omega arith) (inr (omega arith)) v.packages)
+        rw (choice_is, last_is) at (taken_part b.free fixed_digits (choice - b.first) (2 ^ b.free - 1) free_digits (omega arith) (inr (omega arith)) v.packages)
 
 -- a block of a docket in range has few free digits, and a small first choice
 pub few_digits : (v : View) (b : Block) → Ranged v → InDocket v b → (b.first < 2 ^ 40) × (b.free ≤ 40)

@@ -5,7 +5,7 @@ ghost use Rattle.clearing.specs.Lawful.{view};
 ghost use Rattle.bounds.specs.Blocks.{InDocket};
 ghost use Rattle.bounds.specs.Rules.{all_in, fixed, free_ones, below_zero};
 ghost use Rattle.clearing.proofs.ClosedRanges.{ranged-closing};
-ghost use Rattle.bounds.specs.Caps.{all-in-sound};
+ghost use Rattle.bounds.specs.Caps.{all_in-sound};
 
 use crate::blocks::{Block, BoundingRule};
 use clearing::dockets::Docket;
@@ -18,7 +18,7 @@ pub struct AllIn;
 impl BoundingRule for AllIn {
     ghost answers = { λ _. all_in };
 
-    ghost sound = { λ s v b closed block. all-in-sound v (ranged-closing v closed) b block };
+    ghost sound = { λ s v b closed block. all_in-sound v (ranged-closing v closed) b block };
 
     fn consult(&mut self, docket: &Docket, block: Block) -> Option<i64> {
         let all = Tally::of(docket, block.last());

@@ -4,7 +4,7 @@ ghost use Rattle.std.specs.Int.{int_max};
 ghost use Rattle.clearing.specs.Lawful.{view};
 ghost use Rattle.bounds.specs.Rules.{one_by_one, unlimited};
 ghost use Rattle.clearing.proofs.ClosedRanges.{ranged-closing};
-ghost use Rattle.bounds.specs.Gains.{one-by-one-sound};
+ghost use Rattle.bounds.specs.Gains.{one_by_one-sound};
 
 use crate::blocks::{Block, BoundingRule};
 use clearing::dockets::Docket;
@@ -17,7 +17,7 @@ pub struct OneByOne;
 impl BoundingRule for OneByOne {
     ghost answers = { λ _. one_by_one };
 
-    ghost sound = { λ s v b closed block. one-by-one-sound v (ranged-closing v closed) b block };
+    ghost sound = { λ s v b closed block. one_by_one-sound v (ranged-closing v closed) b block };
 
     fn consult(&mut self, docket: &Docket, block: Block) -> Option<i64> {
         let fixed = unlimited_surplus(docket, block.first);

@@ -77,11 +77,11 @@ module _ (t : Tally) (p : PricedPackage) where
   supplies = row (λ m. supplied m p.«record») 1 5
 
   -- the cost as it is stored
-  abbrev stored-cost : ℤ
-  stored-cost = to_z w64 (of_z w64 (to_z w64 (of_z w64 t.cost) +ℤ to_z w64 (of_z w64 p.price)))
+  abbrev stored_cost : ℤ
+  stored_cost = to_z w64 (of_z w64 (to_z w64 (of_z w64 t.cost) +ℤ to_z w64 (of_z w64 p.price)))
 
   -- it has room in 64 bits
-  cost-stored : Room t → PricedRanges p → stored-cost ≡ t.cost +ℤ p.price
+  cost-stored : Room t → PricedRanges p → stored_cost ≡ t.cost +ℤ p.price
   cost-stored room r = omega (arith, ints)
 
   -- the tally with the package's number, and with this supply and this cost
@@ -98,32 +98,32 @@ module _ (t : Tally) (p : PricedPackage) where
 
   -- the same with the cost as it is stored
   abbrev pub begun : List ℕ → Tally
-  begun supply = counted supply stored-cost
+  begun supply = counted supply stored_cost
 
   -- a row with the package's supplies where it has this date
-  abbrev pub on-date : ℕ → List ℕ → List ℕ
-  on-date date xs = cond (eqb p.«record».date date) (plus xs supplies) xs
+  abbrev pub on_date : ℕ → List ℕ → List ℕ
+  on_date date xs = cond (eqb p.«record».date date) (plus xs supplies) xs
 
   -- where it has, a row with them added
-  pub dated-yes : (date : ℕ) (xs ys : List ℕ) → p.«record».date ≡ date → ys ≡ plus xs supplies → ys ≡ on-date date xs
-  dated-yes date xs ys is e = e ∙ sym (cond-true (eqb p.«record».date date) _ _ (eq-eqb p.«record».date date is))
+  pub dated_yes : (date : ℕ) (xs ys : List ℕ) → p.«record».date ≡ date → ys ≡ plus xs supplies → ys ≡ on_date date xs
+  dated_yes date xs ys is e = e ∙ sym (cond-true (eqb p.«record».date date) _ _ (eq-eqb p.«record».date date is))
 
   -- where it has not, the row as it was
-  pub dated-no : (date : ℕ) (xs : List ℕ) → (p.«record».date ≡ date → ⊥) → xs ≡ on-date date xs
-  dated-no date xs not = sym (cond-false (eqb p.«record».date date) _ _ (ne_eqb p.«record».date date not))
+  pub dated_no : (date : ℕ) (xs : List ℕ) → (p.«record».date ≡ date → ⊥) → xs ≡ on_date date xs
+  dated_no date xs not = sym (cond-false (eqb p.«record».date date) _ _ (ne_eqb p.«record».date date not))
 
   -- all sums but those of zones
-  abbrev pub dated-too : Tally
-  dated-too =
-      with_after (on-date 2 t.after) (with_before (on-date 1 t.before) (counted (plus t.supply supplies) (t.cost +ℤ p.price)))
+  abbrev pub dated_too : Tally
+  dated_too =
+      with_after (on_date 2 t.after) (with_before (on_date 1 t.before) (counted (plus t.supply supplies) (t.cost +ℤ p.price)))
 
   -- the sums come to that one after the other
   pub dated-is : Room t → PricedRanges p → (supply : List ℕ) (u v : Tally) → supply ≡ plus t.supply supplies
-      → u ≡ with_before (on-date 1 t.before) (begun supply) → v ≡ with_after (on-date 2 u.after) u → v ≡ dated-too
+      → u ≡ with_before (on_date 1 t.before) (begun supply) → v ≡ with_after (on_date 2 u.after) u → v ≡ dated_too
   dated-is room r supply u v more first second =
       second
-      ∙ ap (λ w. with_after (on-date 2 w.after) w) first
-      ∙ ap₂ (λ s z. with_after (on-date 2 t.after) (with_before (on-date 1 t.before) (counted s z))) more (cost-stored room r)
+      ∙ ap (λ w. with_after (on_date 2 w.after) w) first
+      ∙ ap₂ (λ s z. with_after (on_date 2 t.after) (with_before (on_date 1 t.before) (counted s z))) more (cost-stored room r)
 
   -- adding at the place of a zone, where a package without priority counts
   zone-added : (xs : List ℕ) (zone amount : ℕ) → length xs ≡ 16 → 1 ≤ zone → zone ≤ 16
@@ -148,8 +148,8 @@ module _ (t : Tally) (p : PricedPackage) where
   }
 
   -- the same where the package is one, else the tally as it was
-  abbrev zoned-if : Bool → Tally → Tally
-  zoned-if b u = record {
+  abbrev zoned_if : Bool → Tally → Tally
+  zoned_if b u = record {
     takes = u.takes;
     supply = u.supply;
     before = u.before;
@@ -161,9 +161,9 @@ module _ (t : Tally) (p : PricedPackage) where
 
   module _ (long : Sized t) (r : PricedRanges p) where
     -- with the zones that is the package added
-    added_is : zoned-if (eqb p.«record».unqualified 1) dated-too ≡ added t p
+    added_is : zoned_if (eqb p.«record».unqualified 1) dated_too ≡ added t p
     added_is =
-        sym (tally_same (added t p) (zoned-if (eqb p.«record».unqualified 1) dated-too)
+        sym (tally_same (added t p) (zoned_if (eqb p.«record».unqualified 1) dated_too)
         refl
         (plus_where true t.supply (λ m. supplied m p.«record») 1 5 long.supply)
         (plus_where (eqb p.«record».date 1) t.before (λ m. supplied m p.«record») 1 5 long.before)
@@ -173,9 +173,9 @@ module _ (t : Tally) (p : PricedPackage) where
         refl)
 
     -- of a package without priority
-    pub added-zoned : p.«record».unqualified ≡ 1 → zoned dated-too ≡ added t p
-    added-zoned is = ap (λ b. zoned-if b dated-too) (sym (eq-eqb p.«record».unqualified 1 is)) ∙ added_is
+    pub added-zoned : p.«record».unqualified ≡ 1 → zoned dated_too ≡ added t p
+    added-zoned is = ap (λ b. zoned_if b dated_too) (sym (eq-eqb p.«record».unqualified 1 is)) ∙ added_is
 
     -- of a package with priority
-    pub added-plain : (p.«record».unqualified ≡ 1 → ⊥) → dated-too ≡ added t p
-    added-plain not = ap (λ b. zoned-if b dated-too) (sym (ne_eqb p.«record».unqualified 1 not)) ∙ added_is
+    pub added-plain : (p.«record».unqualified ≡ 1 → ⊥) → dated_too ≡ added t p
+    added-plain not = ap (λ b. zoned_if b dated_too) (sym (ne_eqb p.«record».unqualified 1 not)) ∙ added_is

@@ -95,33 +95,33 @@ accepted_docket all (Err e) v few well made = let z : ◌≡◌ {A = ℕ} 0 1 = 
 
 module _ (all : Entries) (sound : Sound all) where
   -- the open bands of sound entries are in range
-  bands-listed : All (Listed band_layout 64) (open_from 1 all.bands)
-  bands-listed = listed band_layout 64 1 all.bands (sound.in_range kind.Band) (omega arith) (omega (arith, sound.numbered kind.Band))
+  bands_listed : All (Listed band_layout 64) (open_from 1 all.bands)
+  bands_listed = listed band_layout 64 1 all.bands (sound.in_range kind.Band) (omega arith) (omega (arith, sound.numbered kind.Band))
 
   -- with what stands ahead of them
   bands-fit : each band_fits (open_bands all.bands) ≡ true
   bands-fit =
       each_made (Listed band_layout 64) (with_ahead all.bands) band_fits (λ b here.
       and_from _ _ here.fit (and_from _ _ (within-from 1 64 b.number here.low here.high)
-      (le-leb _ 6400000000 (omega (arith, ahead-few b (open_from 1 all.bands) bands-listed, open_few 1 all.bands, sound.numbered kind.Band)))))
-      (open_from 1 all.bands) bands-listed
+      (le-leb _ 6400000000 (omega (arith, ahead-few b (open_from 1 all.bands) bands_listed, open_few 1 all.bands, sound.numbered kind.Band)))))
+      (open_from 1 all.bands) bands_listed
 
   -- records of any other kind are in range
-  records-fit : {R : Type 0} (k : Layout R) (es : List (Entry R)) → InRange k es → each (fits k) (open_records es) ≡ true
-  records-fit k es ok =
+  records_fit : {R : Type 0} (k : Layout R) (es : List (Entry R)) → InRange k es → each (fits k) (open_records es) ≡ true
+  records_fit k es ok =
       each_made (Listed k (length es)) (λ r. r.of) (fits k) (λ r here. here.fit) (open_from 1 es) (listed k (length es) 1 es ok (omega arith) (omega arith))
 
   -- so a docket of them keeps all that a docket keeps
-  docket-ranged : (ps : List PricedPackage) → each package_fits ps ≡ true → length ps ≤ 40 → Ranged (docket_with all ps)
-  docket-ranged ps fit few = record {
+  docket_ranged : (ps : List PricedPackage) → each package_fits ps ≡ true → length ps ≤ 40 → Ranged (docket_with all ps)
+  docket_ranged ps fit few = record {
     few_packages = few;
     few_bands = omega (arith, length-map (open_from 1 all.bands) (with_ahead all.bands), open_few 1 all.bands, sound.numbered kind.Band);
     packages = fit;
     bands = bands-fit;
     order = record { numbers = bands_rise all.bands; ahead = bands-ahead all.bands };
-    pairs = records-fit pair_layout all.pairs (sound.in_range kind.Pair);
-    exclusions = records-fit exclusion_layout all.exclusions (sound.in_range kind.Exclusion);
-    limits = records-fit limit_layout all.limits (sound.in_range kind.Limit);
+    pairs = records_fit pair_layout all.pairs (sound.in_range kind.Pair);
+    exclusions = records_fit exclusion_layout all.exclusions (sound.in_range kind.Exclusion);
+    limits = records_fit limit_layout all.limits (sound.in_range kind.Limit);
   }
 
 -- so does every docket that a closing makes
@@ -132,4 +132,4 @@ ranged-closing v by =
     let here = listed package_layout 40 1 all.packages (by.sound.in_range kind.Package) (omega arith) (omega (arith, by.sound.numbered kind.Package)) in
     let made = accepted_docket all (priced by.meaning open_packages) v (length open_packages) (priced_well by.meaning by.bounded open_packages here) by.accepted in
     subst Ranged (sym made.3)
-    (docket-ranged all by.sound made.0 made.1 (omega (arith, made.2, open_few 1 all.packages, by.sound.numbered kind.Package)))
+    (docket_ranged all by.sound made.0 made.1 (omega (arith, made.2, open_few 1 all.packages, by.sound.numbered kind.Package)))

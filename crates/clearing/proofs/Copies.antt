@@ -6,8 +6,8 @@ use Rattle.offers.specs.declared.registers.Entry.TheVariants.{Vacant, Open}
 use Rattle.clearing.specs.Bands.{Numbered}
 use Rattle.clearing.specs.Closing.{open_from}
 use Rattle.clearing.specs.Ranges.{each}
-use Rattle.clearing.proofs.Fits.{each-push}
-use Rattle.clearing.proofs.Openings.{opened, all_opened, one-opened, none-opened}
+use Rattle.clearing.proofs.Fits.{each_push}
+use Rattle.clearing.proofs.Openings.{opened, all_opened, one_opened, none_opened}
 
 -- At most so many stand in it, its capacity is as it was, each passes a test, and they are what is made of the open records.
 pub record Copied {R X Z : Type 0} (test : X → Bool) (f : Numbered R → X) (es : List (Entry R)) (capacity i : ℕ) (v : Vec X Z) : Type 0 where
@@ -18,15 +18,15 @@ pub record Copied {R X Z : Type 0} (test : X → Bool) (f : Numbered R → X) (e
 
 module _ {R X Z : Type 0} (test : X → Bool) (f : Numbered R → X) (es : List (Entry R)) (capacity : ℕ) (v : Vec X Z) where
   -- none stands in it
-  pub none-copied : vec_items v ≡ [] → vec_len v ≡ 0 → vec_capacity v ≡ capacity → Copied test f es capacity 0 v
-  none-copied items len cap = record { few = omega arith; same = cap; fit = rw items refl; holds = items }
+  pub none_copied : vec_items v ≡ [] → vec_len v ≡ 0 → vec_capacity v ≡ capacity → Copied test f es capacity 0 v
+  none_copied items len cap = record { few = omega arith; same = cap; fit = rw items refl; holds = items }
 
   module _ (i : ℕ) (inside : i < length es) (ok : Copied test f es capacity i v) (w : Vec X Z) where
     -- an entry that is not open puts none in
     pub none_more : ((r : R) → get_or es i Vacant ≡ Open r → ⊥) → w ≡ v → Copied test f es capacity (i + 1) w
     none_more shut e =
         subst (Copied test f es capacity (i + 1)) (sym e)
-        (record { few = omega arith; same = ok.same; fit = ok.fit; holds = ok.holds ∙ ap (map f) (sym (none-opened es i inside shut)) })
+        (record { few = omega arith; same = ok.same; fit = ok.fit; holds = ok.holds ∙ ap (map f) (sym (none_opened es i inside shut)) })
 
     -- an open entry puts one in that passes
     pub one_more : (r : R) (x : X) → get_or es i Vacant ≡ Open r → x ≡ f (record { number = i + 1; of = r }) → test x ≡ true
@@ -34,14 +34,14 @@ module _ {R X Z : Type 0} (test : X → Bool) (f : Numbered R → X) (es : List 
     one_more r x is made pass items len cap = record {
       few = omega arith;
       same = cap ∙ ok.same;
-      fit = rw items (each-push test (vec_items v) x ok.fit pass);
+      fit = rw items (each_push test (vec_items v) x ok.fit pass);
       holds =
           items
           ∙ ap (λ xs. xs ++ x ∷ []) ok.holds
           ∙ ap (λ y. map f (opened es i) ++ y ∷ []) made
-          ∙ sym (ap (map f) (one-opened es i inside r is) ∙ map_push f (opened es i) (record { number = i + 1; of = r }));
+          ∙ sym (ap (map f) (one_opened es i inside r is) ∙ map_push f (opened es i) (record { number = i + 1; of = r }));
     }
 
   -- past the last entry all that is open stands in it
-  pub all-copied : (i : ℕ) → length es ≤ i → Copied test f es capacity i v → vec_items v ≡ map f (open_from 1 es)
-  all-copied i past ok = ok.holds ∙ ap (map f) (all_opened es i past)
+  pub all_copied : (i : ℕ) → length es ≤ i → Copied test f es capacity i v → vec_items v ≡ map f (open_from 1 es)
+  all_copied i past ok = ok.holds ∙ ap (map f) (all_opened es i past)

@@ -17,13 +17,13 @@ Fewer bs one other more less f = over f bs one + over f bs other ≤ over f bs m
 
 module _ (bs : List OpenBand) (one other more less : List ℕ) where
   -- so it is of nothing
-  fewer-none : (f : OpenBand → ℕ → ℕ) → All (λ b. (s : ℕ) → f b s ≡ 0) bs → Fewer bs one other more less f
-  fewer-none f none = omega (arith, over_none f bs one none, over_none f bs other none)
+  fewer_none : (f : OpenBand → ℕ → ℕ) → All (λ b. (s : ℕ) → f b s ≡ 0) bs → Fewer bs one other more less f
+  fewer_none f none = omega (arith, over_none f bs one none, over_none f bs other none)
 
   -- and of two such amounts together
-  fewer-plus : (f g h : OpenBand → ℕ → ℕ) → All (λ b. (s : ℕ) → h b s ≡ f b s + g b s) bs
+  fewer_plus : (f g h : OpenBand → ℕ → ℕ) → All (λ b. (s : ℕ) → h b s ≡ f b s + g b s) bs
       → Fewer bs one other more less f → Fewer bs one other more less g → Fewer bs one other more less h
-  fewer-plus f g h both left right =
+  fewer_plus f g h both left right =
       omega (arith, over-plus f g h bs one both, over-plus f g h bs other both, over-plus f g h bs more both, over-plus f g h bs less both)
 
 -- of a limit on each: what is added to the greater of two numbers counts no more
@@ -43,21 +43,21 @@ module _ (bs : List OpenBand) (rise : rising bs ≡ true) (ahead : aheads bs ≡
       omega (arith, sold xa, sold y, sold x, sold ya, least_more (x m) (y m) (a m) (wanted (at_least m p) bs) (xa m) (ya m) (more m) (after m) (less m))
 
   -- of a market at cut prices, by the bands of at least each price
-  cut-added : (m p : ℕ) → Added (pay_cut m p)
-  cut-added m zero = fewer-none bs _ _ _ _ (pay_cut m 0) (all_of _ (pay_nothing m) bs)
-  cut-added m (suc p) =
-      fewer-plus bs _ _ _ _ (pay_cut m p) (λ b s. where_so (at_least m (suc p) b) s) (pay_cut m (suc p)) (all_of _ (pay_more m p) bs)
-      (cut-added m p) (front-added m (suc p))
+  cut_added : (m p : ℕ) → Added (pay_cut m p)
+  cut_added m zero = fewer_none bs _ _ _ _ (pay_cut m 0) (all_of _ (pay_nothing m) bs)
+  cut_added m (suc p) =
+      fewer_plus bs _ _ _ _ (pay_cut m p) (λ b s. where_so (at_least m (suc p) b) s) (pay_cut m (suc p)) (all_of _ (pay_more m p) bs)
+      (cut_added m p) (front-added m (suc p))
 
   -- of the markets up to any
-  markets-added : (k : ℕ) → Added (pay_to k)
-  markets-added zero = fewer-none bs _ _ _ _ (pay_to 0) (All-weaker _ _ pay_none bs ranges)
-  markets-added (suc k) =
-      fewer-plus bs _ _ _ _ (pay_to k) (pay_cut (suc k) 10000000) (pay_to (suc k)) (All-weaker _ _ (pay_next k) bs ranges)
-      (markets-added k) (cut-added (suc k) 10000000)
+  markets_added : (k : ℕ) → Added (pay_to k)
+  markets_added zero = fewer_none bs _ _ _ _ (pay_to 0) (All-weaker _ _ pay_none bs ranges)
+  markets_added (suc k) =
+      fewer_plus bs _ _ _ _ (pay_to k) (pay_cut (suc k) 10000000) (pay_to (suc k)) (All-weaker _ _ (pay_next k) bs ranges)
+      (markets_added k) (cut_added (suc k) 10000000)
 
   -- and of all that is paid
   pub paid-added : paid bs (filled_of xa bs) + paid bs (filled_of y bs) ≤ paid bs (filled_of x bs) + paid bs (filled_of ya bs)
   paid-added =
       let all = λ (amount : ℕ → ℕ). paid_all bs (filled_of amount bs) ranges in
-      omega (arith, all xa, all y, all x, all ya, markets-added 5)
+      omega (arith, all xa, all y, all x, all ya, markets_added 5)

@@ -6,7 +6,7 @@ use Rattle.offers.specs.declared.records.Exclusion.{Exclusion}
 use Rattle.clearing.specs.declared.dockets.Docket.{Docket}
 use Rattle.clearing.specs.Kept.{In, ExclusionsKept}
 use Rattle.clearing.proofs.Fits.{ExclusionRanges}
-use Rattle.clearing.proofs.Held.{no_exclusion, exclusion-held}
+use Rattle.clearing.proofs.Held.{no_exclusion, exclusion_held}
 
 -- the place of the group of an exclusion
 abbrev place_of : List Exclusion → ℕ → ℕ
@@ -31,11 +31,11 @@ pub record Firsts (xs : List Exclusion) (taken : List Bool) (i : ℕ) (first : L
 module _ (d : Docket) (xs : List Exclusion) (held : xs ≡ vec_items d.exclusions) (taken : List Bool) where
   -- the exclusion at a place is in range
   ranged : (k : ℕ) → k < length xs → ExclusionRanges (get_or xs k no_exclusion)
-  ranged k h = exclusion-held d k xs held h
+  ranged k h = exclusion_held d k xs held h
 
   -- where each stands for its group, no two of a group differ
-  pub firsts-all : (i : ℕ) (first : List ℕ) → length xs ≤ i → Firsts xs taken i first → ExclusionsKept xs taken
-  firsts-all i first past now =
+  pub firsts_all : (i : ℕ) (first : List ℕ) → length xs ≤ i → Firsts xs taken i first → ExclusionsKept xs taken
+  firsts_all i first past now =
       All-from_get_or _ xs no_exclusion (λ j h. All-from_get_or _ xs no_exclusion (λ k l same one other.
       sym (now.stands j (omega arith) one)
       ∙ ap (λ g. get_or first (g - 1) 0) same
@@ -47,18 +47,18 @@ module _ (d : Docket) (xs : List Exclusion) (held : xs ≡ vec_items d.exclusion
     still_seen group member (k, h, of, in-it, is) = (k, omega arith, of, in-it, is)
 
     -- a member that is not taken
-    pub firsts-passed : (next : List ℕ) → get_or taken (member_of xs i) false ≡ false → next ≡ first → Firsts xs taken (i + 1) next
-    firsts-passed next not e = subst (Firsts xs taken (i + 1)) (sym e) (record {
+    pub firsts_passed : (next : List ℕ) → get_or taken (member_of xs i) false ≡ false → next ≡ first → Firsts xs taken (i + 1) next
+    firsts_passed next not e = subst (Firsts xs taken (i + 1)) (sym e) (record {
       long = now.long;
       stands = below_more _ i now.stands (λ chosen. absurd (both_ways _ not chosen));
       seen = λ group some. still_seen group _ (now.seen group some);
     })
 
     -- a taken member that is the first of its group, or the same as the first
-    pub firsts-taken : (next : List ℕ) → In taken (member_of xs i)
+    pub firsts_taken : (next : List ℕ) → In taken (member_of xs i)
         → (get_or first (place_of xs i) 0 ≡ 0) ⊎ (get_or first (place_of xs i) 0 ≡ member_of xs i)
         → next ≡ set first (place_of xs i) (member_of xs i) → Firsts xs taken (i + 1) next
-    firsts-taken next chosen free e =
+    firsts_taken next chosen free e =
         let group = place_of xs i in
         let member = member_of xs i in
         let here = ranged i inside in
@@ -87,9 +87,9 @@ module _ (d : Docket) (xs : List Exclusion) (held : xs ≡ vec_items d.exclusion
         })
 
     -- a taken member that differs from the one that stands for its group
-    pub firsts-differ : In taken (member_of xs i) → (get_or first (place_of xs i) 0 ≡ 0 → ⊥)
+    pub firsts_differ : In taken (member_of xs i) → (get_or first (place_of xs i) 0 ≡ 0 → ⊥)
         → (get_or first (place_of xs i) 0 ≡ member_of xs i → ⊥) → ExclusionsKept xs taken → ⊥
-    firsts-differ chosen some other kept =
+    firsts_differ chosen some other kept =
         let old = now.seen (place_of xs i) some in
         let k = old.0 in
         let there = ranged k (omega (arith, old.1)) in

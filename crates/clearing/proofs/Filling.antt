@@ -13,7 +13,7 @@ use Rattle.clearing.specs.Ranges.{each, band_fits}
 use Rattle.clearing.specs.Sales.{filled}
 use Rattle.clearing.specs.Tallies.{row}
 use Rattle.clearing.proofs.Fits.{OpenRanges, open_ranges}
-use Rattle.clearing.proofs.FillingSums.{where_same, times_least, all_of, all_both, all-maps, total-same, total-map, row_getD, over, over-map, over_none, over-plus, sold_where, wanted, within-wanted}
+use Rattle.clearing.proofs.FillingSums.{where_same, times_least, all_of, all_both, all_maps, total-same, total-map, row_getD, over, over-map, over_none, over-plus, sold_where, wanted, within-wanted}
 use Rattle.clearing.proofs.FillingOrder.{at_least, at_least-front, share, front-filled}
 
 -- the fields of bands in range
@@ -128,7 +128,7 @@ module _ (bs : List OpenBand) (amount : ℕ → ℕ) (rise : rising bs ≡ true)
   -- the bands of a market with at least a price are sold all that they want, or the whole amount
   pub filled-front : (m p : ℕ) → sold_where (at_least m p) bs (filled_of amount bs) ≡ min (amount m) (wanted (at_least m p) bs)
   filled-front m p =
-      let same = all_both _ _ _ (λ b r is. where_same (at_least m p b) _ _ (λ t. filled-share m b r is (eqb-true b.«record».market m (and_parts _ _ t).0))) bs ranges (all-maps _ _ bs ahead) in
+      let same = all_both _ _ _ (λ b r is. where_same (at_least m p b) _ _ (λ t. filled-share m b r is (eqb-true b.«record».market m (and_parts _ _ t).0))) bs ranges (all_maps _ _ bs ahead) in
       over-map (λ b s. where_so (at_least m p b) s) (filled (row amount 1 5)) bs
       ∙ total-same _ _ bs same
       ∙ front-filled (at_least m p) (at_least-front m p) (amount m) 0 bs rise

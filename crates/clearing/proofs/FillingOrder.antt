@@ -75,14 +75,14 @@ unmoved front behind s q a n first = grind arith
 
 module _ (front : OpenBand → Bool) (ok : Front front) (x : OpenBand) (bs : List OpenBand) where
   -- a front with x in it: what stands ahead of x is sold as without x, the rest as of a supply smaller by what x takes
-  shares-moved : (s : ℕ) → front x ≡ true → All (λ b. x.number < b.number) bs
+  shares_moved : (s : ℕ) → front x ≡ true → All (λ b. x.number < b.number) bs
       → shares front s (x ∷ bs) bs + shares (λ b. comes b x) (s - x.«record».quantity) bs bs ≡ shares (λ b. comes b x) s bs bs + shares front (s - x.«record».quantity) bs bs
-  shares-moved s fx later =
+  shares_moved s fx later =
       total-pairs _ _ _ _ bs (All-weaker _ _ (λ b h. moved (front b) (comes x b) (comes b x) s _ _ _ (λ bx. (ok.closed b x bx fx, served_once x b bx)) (λ fb. served_first x b h (ok.one_market x b fx fb))) bs later)
 
   -- a front without x is sold as if x were not there
-  shares-unmoved : (s : ℕ) → front x ≡ false → shares front s (x ∷ bs) bs ≡ shares front s bs bs
-  shares-unmoved s fx =
+  shares_unmoved : (s : ℕ) → front x ≡ false → shares front s (x ∷ bs) bs ≡ shares front s bs bs
+  shares_unmoved s fx =
       let ahead : (b : OpenBand) → front b ≡ true → comes x b ≡ false = λ b fb. let closed = ok.closed x b in grind arith in
       total-same _ _ bs (all_of _ (λ b. unmoved (front b) (comes x b) s _ _ _ (ahead b)) bs)
 
@@ -101,6 +101,6 @@ front-filled front ok s low (x ∷ bs) rise =
     let rest = λ (f : OpenBand → Bool) (k : Front f) (n : ℕ). front-filled f k n x.number bs later in
     let first = rest (λ b. comes b x) (ahead-front x) in
     ⊎_elim
-    (λ (fx : front x ≡ true). rw (fx, not_itself x) (omega (arith, shares-moved front ok x bs s fx above, ahead-wanted front ok x bs fx, first s, first left, rest front ok left)))
-    (λ (fx : front x ≡ false). rw fx (omega (arith, shares-unmoved front ok x bs s fx, rest front ok s)))
+    (λ (fx : front x ≡ true). rw (fx, not_itself x) (omega (arith, shares_moved front ok x bs s fx above, ahead-wanted front ok x bs fx, first s, first left, rest front ok left)))
+    (λ (fx : front x ≡ false). rw fx (omega (arith, shares_unmoved front ok x bs s fx, rest front ok s)))
     (cases_Bool (front x))

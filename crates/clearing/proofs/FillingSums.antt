@@ -19,12 +19,12 @@ module _ {X : Type 0} where
   all_both P Q R r (x ∷ xs) ps qs = (r x ps.0 qs.0, all_both P Q R r xs ps.1 qs.1)
 
   -- two maps that give the same list give the same of each element
-  pub all-maps : (f g : X → ℕ) (xs : List X) → map f xs ≡ map g xs → All (λ x. f x ≡ g x) xs
-  all-maps f g [] e = tt
-  all-maps f g (x ∷ xs) e =
+  pub all_maps : (f g : X → ℕ) (xs : List X) → map f xs ≡ map g xs → All (λ x. f x ≡ g x) xs
+  all_maps f g [] e = tt
+  all_maps f g (x ∷ xs) e =
       let here : f x ≡ g x = cc in
       let there : map f xs ≡ map g xs = cc in
-      (here, all-maps f g xs there)
+      (here, all_maps f g xs there)
 
   -- sums of the same amounts are the same
   pub total-same : (f g : X → ℕ) (xs : List X) → All (λ x. f x ≡ g x) xs → total f xs ≡ total g xs

@@ -28,13 +28,13 @@ module _ {X : Type 0} (f : X → Bool) where
   each_all = Decides-by_and f (λ x. f x ≡ true) (each f) (λ x. ((λ e. e), (λ e. e))) refl (λ _ _. refl)
 
   -- the element at a place passes
-  pub each-getD : (xs : List X) (i : ℕ) (d : X) → i < length xs → each f xs ≡ true → f (get_or xs i d) ≡ true
-  each-getD xs i d h e = All-get_or (λ x. f x ≡ true) xs i d h ((each_all xs).0 e)
+  pub each_getD : (xs : List X) (i : ℕ) (d : X) → i < length xs → each f xs ≡ true → f (get_or xs i d) ≡ true
+  each_getD xs i d h e = All-get_or (λ x. f x ≡ true) xs i d h ((each_all xs).0 e)
 
   -- so does what is read at any place, if the default passes
   pub each_read : (xs : List X) (i : ℕ) (d : X) → f d ≡ true → each f xs ≡ true → f (get_or xs i d) ≡ true
   each_read xs i d ok e =
-      ⊎_elim (λ h. each-getD xs i d h e) (λ h. rw (get_or_past xs i d h) ok) (cases_lt i (length xs))
+      ⊎_elim (λ h. each_getD xs i d h e) (λ h. rw (get_or_past xs i d h) ok) (cases_lt i (length xs))
 
   -- two lists that pass, one after the other
   pub each_append : (xs ys : List X) → each f xs ≡ true → each f ys ≡ true → each f (xs ++ ys) ≡ true
@@ -42,8 +42,8 @@ module _ {X : Type 0} (f : X → Bool) where
       (each_all (xs ++ ys)).1 (All-append (λ x. f x ≡ true) xs ys ((each_all xs).0 d) ((each_all ys).0 e))
 
   -- one more that passes
-  pub each-push : (xs : List X) (x : X) → each f xs ≡ true → f x ≡ true → each f (xs ++ x ∷ []) ≡ true
-  each-push xs x e ok = (each_all (xs ++ x ∷ [])).1 (All-push (λ x. f x ≡ true) xs x ((each_all xs).0 e) ok)
+  pub each_push : (xs : List X) (x : X) → each f xs ≡ true → f x ≡ true → each f (xs ++ x ∷ []) ≡ true
+  each_push xs x e ok = (each_all (xs ++ x ∷ [])).1 (All-push (λ x. f x ≡ true) xs x ((each_all xs).0 e) ok)
 
   -- one that passes in the place of another
   pub each_set : (xs : List X) (i : ℕ) (x : X) → f x ≡ true → each f xs ≡ true → each f (set xs i x) ≡ true

@@ -8,7 +8,7 @@ use Rattle.clearing.specs.declared.dockets.PricedPackage.{PricedPackage}
 use Rattle.clearing.specs.declared.dockets.OpenBand.{OpenBand}
 use Rattle.clearing.specs.declared.dockets.Docket.{Docket}
 use Rattle.clearing.specs.Ranges.{fits, package_fits, band_fits}
-use Rattle.clearing.proofs.Fits.{each-getD, PairRanges, pair_ranges, ExclusionRanges, exclusion_ranges, LimitRanges, limit_ranges, OpenRanges, open_ranges}
+use Rattle.clearing.proofs.Fits.{each_getD, PairRanges, pair_ranges, ExclusionRanges, exclusion_ranges, LimitRanges, limit_ranges, OpenRanges, open_ranges}
 
 -- what stands past the end of each list
 abbrev pub no_package : PricedPackage
@@ -45,30 +45,30 @@ no_limit = record { sort = 0; zone = 0; amount = 0 }
 
 module _ (d : Docket) (i : ℕ) where
   -- a package that a docket holds is in range
-  pub package-held : (ps : List PricedPackage) → ps ≡ vec_items d.packages → i < length ps → package_fits (get_or ps i no_package) ≡ true
-  package-held ps e h = each-getD package_fits ps i no_package h (rw e d.packages_fit)
+  pub package_held : (ps : List PricedPackage) → ps ≡ vec_items d.packages → i < length ps → package_fits (get_or ps i no_package) ≡ true
+  package_held ps e h = each_getD package_fits ps i no_package h (rw e d.packages_fit)
 
   -- so is a band
-  pub band-held : (bs : List OpenBand) → bs ≡ vec_items d.bands → i < length bs → band_fits (get_or bs i no_band) ≡ true
-  band-held bs e h = each-getD band_fits bs i no_band h (rw e d.bands_fit)
+  pub band_held : (bs : List OpenBand) → bs ≡ vec_items d.bands → i < length bs → band_fits (get_or bs i no_band) ≡ true
+  band_held bs e h = each_getD band_fits bs i no_band h (rw e d.bands_fit)
 
   -- with its fields
-  pub band-ranged : (bs : List OpenBand) → bs ≡ vec_items d.bands → i < length bs → OpenRanges (get_or bs i no_band)
-  band-ranged bs e h = open_ranges (get_or bs i no_band) (band-held bs e h)
+  pub band_ranged : (bs : List OpenBand) → bs ≡ vec_items d.bands → i < length bs → OpenRanges (get_or bs i no_band)
+  band_ranged bs e h = open_ranges (get_or bs i no_band) (band_held bs e h)
 
   -- a pair that a docket holds, with its fields
   pub pair_held : (ps : List Pair) → ps ≡ vec_items d.pairs → i < length ps → PairRanges (get_or ps i no_pair)
-  pair_held ps e h = pair_ranges (get_or ps i no_pair) (each-getD (fits pair_layout) ps i no_pair h (rw e d.pairs_fit))
+  pair_held ps e h = pair_ranges (get_or ps i no_pair) (each_getD (fits pair_layout) ps i no_pair h (rw e d.pairs_fit))
 
   -- an exclusion that it holds, with its fields
-  pub exclusion-held : (xs : List Exclusion) → xs ≡ vec_items d.exclusions → i < length xs → ExclusionRanges (get_or xs i no_exclusion)
-  exclusion-held xs e h =
-      exclusion_ranges (get_or xs i no_exclusion) (each-getD (fits exclusion_layout) xs i no_exclusion h (rw e d.exclusions_fit))
+  pub exclusion_held : (xs : List Exclusion) → xs ≡ vec_items d.exclusions → i < length xs → ExclusionRanges (get_or xs i no_exclusion)
+  exclusion_held xs e h =
+      exclusion_ranges (get_or xs i no_exclusion) (each_getD (fits exclusion_layout) xs i no_exclusion h (rw e d.exclusions_fit))
 
   -- a limit that it holds
-  pub limit-held : (ls : List Limit) → ls ≡ vec_items d.limits → i < length ls → fits limit_layout (get_or ls i no_limit) ≡ true
-  limit-held ls e h = each-getD (fits limit_layout) ls i no_limit h (rw e d.limits_fit)
+  pub limit_held : (ls : List Limit) → ls ≡ vec_items d.limits → i < length ls → fits limit_layout (get_or ls i no_limit) ≡ true
+  limit_held ls e h = each_getD (fits limit_layout) ls i no_limit h (rw e d.limits_fit)
 
   -- with its fields
-  pub limit-ranged : (ls : List Limit) → ls ≡ vec_items d.limits → i < length ls → LimitRanges (get_or ls i no_limit)
-  limit-ranged ls e h = limit_ranges (get_or ls i no_limit) (limit-held ls e h)
+  pub limit_ranged : (ls : List Limit) → ls ≡ vec_items d.limits → i < length ls → LimitRanges (get_or ls i no_limit)
+  limit_ranged ls e h = limit_ranges (get_or ls i no_limit) (limit_held ls e h)

@@ -70,8 +70,8 @@ module _ (T : List PricedPackage) (t : Tally) (counted : t ≡ tally_of T) (r : 
       same_from_decides r _ (Decides-like r same.0 same.1 decides) (pairs_tell ps T W)
 
   -- so for exclusions
-  pub groups-tested : (xs : List Exclusion) → each (fits exclusion_layout) xs ≡ true → Decides r (ExclusionsKept xs t.takes) → r ≡ groups_apart xs T
-  groups-tested xs ok decides =
+  pub groups_tested : (xs : List Exclusion) → each (fits exclusion_layout) xs ≡ true → Decides r (ExclusionsKept xs t.takes) → r ≡ groups_apart xs T
+  groups_tested xs ok decides =
       let same = exclusions-same T t counted xs ok in
       same_from_decides r _ (Decides-like r same.0 same.1 decides) (groups_tell xs T)
 

@@ -47,23 +47,23 @@ all_opened es i past = ap (open_from 1) (take_all i es past)
 
 module _ {R : Type 0} (es : List (Entry R)) (i : ℕ) (inside : i < length es) where
   -- one entry more
-  opened-more : opened es (i + 1) ≡ opened es i ++ open_from (1 + i) (get_or es i Vacant ∷ [])
-  opened-more =
+  opened_more : opened es (i + 1) ≡ opened es i ++ open_from (1 + i) (get_or es i Vacant ∷ [])
+  opened_more =
       ap (open_from 1) (take_more es i Vacant inside)
       ∙ open_append 1 (take i es) (get_or es i Vacant ∷ [])
       ∙ ap (λ n. opened es i ++ open_from (1 + n) (get_or es i Vacant ∷ [])) (length-take-le i es (omega arith))
 
   -- which is open
-  pub one-opened : (r : R) → get_or es i Vacant ≡ Open r → opened es (i + 1) ≡ opened es i ++ record { number = i + 1; of = r } ∷ []
-  one-opened r is =
-      opened-more
+  pub one_opened : (r : R) → get_or es i Vacant ≡ Open r → opened es (i + 1) ≡ opened es i ++ record { number = i + 1; of = r } ∷ []
+  one_opened r is =
+      opened_more
       ∙ ap (λ e. opened es i ++ open_from (1 + i) (e ∷ [])) is
       ∙ ap (λ n. opened es i ++ record { number = n; of = r } ∷ []) (add_comm 1 i)
 
   -- which is not open
-  pub none-opened : ((r : R) → get_or es i Vacant ≡ Open r → ⊥) → opened es (i + 1) ≡ opened es i
-  none-opened shut =
-      opened-more
+  pub none_opened : ((r : R) → get_or es i Vacant ≡ Open r → ⊥) → opened es (i + 1) ≡ opened es i
+  none_opened shut =
+      opened_more
       ∙ ap (λ rs. opened es i ++ rs) (not_open (1 + i) (get_or es i Vacant) shut)
       ∙ append-nil (opened es i)
 
@@ -99,16 +99,16 @@ ahead_so_far es i b = ahead_of (opened es i) b
 
 module _ (es : List (Entry Band)) (i : ℕ) (b : Numbered Band) (inside : i < length es) where
   -- an open band adds its quantity if it is served before the band
-  pub ahead-open : (a : Band) → get_or es i Vacant ≡ Open a
+  pub ahead_open : (a : Band) → get_or es i Vacant ≡ Open a
       → ahead_so_far es (i + 1) b ≡ ahead_so_far es i b + where_so (comes_ahead (record { number = i + 1; of = a }) b) a.quantity
-  ahead-open a is =
+  ahead_open a is =
       let this : Numbered Band = record { number = i + 1; of = a } in
-      ap (λ bs. ahead_of bs b) (one-opened es i inside a is)
+      ap (λ bs. ahead_of bs b) (one_opened es i inside a is)
       ∙ omega (arith, total-append (λ a. where_so (comes_ahead a b) a.of.quantity) (opened es i) (this ∷ []))
 
   -- an entry that is not open adds nothing
-  pub ahead-shut : ((a : Band) → get_or es i Vacant ≡ Open a → ⊥) → ahead_so_far es (i + 1) b ≡ ahead_so_far es i b
-  ahead-shut shut = ap (λ bs. ahead_of bs b) (none-opened es i inside shut)
+  pub ahead_shut : ((a : Band) → get_or es i Vacant ≡ Open a → ⊥) → ahead_so_far es (i + 1) b ≡ ahead_so_far es i b
+  ahead_shut shut = ap (λ bs. ahead_of bs b) (none_opened es i inside shut)
 
 -- of two places the earlier has the smaller number
 smaller-number : (i j : ℕ) → ltb (i + 1) (j + 1) ≡ ltb i j

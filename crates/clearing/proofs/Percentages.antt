@@ -40,15 +40,15 @@ percentages_most ls n count =
 
 module _ (ls : List Limit) (l : Limit) where
   -- a limit of another sort sets none
-  pub percentages-same : (l.sort ≡ 3 → ⊥) → row (percentage ls) 1 4 ≡ row (percentage (ls ++ l ∷ [])) 1 4
-  percentages-same not =
+  pub percentages_same : (l.sort ≡ 3 → ⊥) → row (percentage ls) 1 4 ≡ row (percentage (ls ++ l ∷ [])) 1 4
+  percentages_same not =
       row_same (percentage ls) (percentage (ls ++ l ∷ [])) 1 4 (λ zone h.
       sym (percentage_last ls l zone ∙ cond-false (sets l zone) _ _ (and_left (eqb l.sort 3) (eqb l.zone zone) (ne_eqb l.sort 3 not))))
 
   -- a percentage sets that of its zone
-  pub percentages-set : l.sort ≡ 3 → 1 ≤ l.zone → l.zone ≤ 4
+  pub percentages_set : l.sort ≡ 3 → 1 ≤ l.zone → l.zone ≤ 4
       → set (row (percentage ls) 1 4) (l.zone - 1) (min (get_or (row (percentage ls) 1 4) (l.zone - 1) 0) l.amount) ≡ row (percentage (ls ++ l ∷ [])) 1 4
-  percentages-set is low high =
+  percentages_set is low high =
       let zone : 1 + (l.zone - 1) ≡ l.zone = omega arith in
       let sort = eq-eqb l.sort 3 is in
       let old : get_or (row (percentage ls) 1 4) (l.zone - 1) 0 ≡ percentage ls (1 + (l.zone - 1)) = getD_row (percentage ls) 1 4 (l.zone - 1) 0 (omega arith) in

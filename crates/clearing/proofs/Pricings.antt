@@ -49,38 +49,38 @@ module _ (meaning : Meaning) where
       priced-from price (n + 1) es (λ k p is. so (suc k) p is ∙ ap (λ m. Ok (price m)) (omega arith))
 
   -- each open package of a register with the price at its place
-  pub priced-all : (es : List (Entry Package)) (prices : List ℤ) → AllPriced meaning es prices
+  pub priced_all : (es : List (Entry Package)) (prices : List ℤ) → AllPriced meaning es prices
       → priced meaning (open_from 1 es) ≡ Ok (map (at_price prices) (open_from 1 es))
-  priced-all es prices so =
+  priced_all es prices so =
       priced-from (λ n. get_or prices (n - 1) (pos 0)) 1 es (λ k p is. so k p is ∙ ap (λ m. Ok (get_or prices m (pos 0))) (omega arith))
 
   -- the first open package without a price refuses
-  refused-from : (n : ℕ) (es : List (Entry Package)) (i : ℕ) (p : Package) (fault : Fault)
+  refused_from : (n : ℕ) (es : List (Entry Package)) (i : ℕ) (p : Package) (fault : Fault)
       → ((k : ℕ) → k < i → (q : Package) → get_or es k Vacant ≡ Open q → (z : ℤ) × (meaning q ≡ Ok z))
       → get_or es i Vacant ≡ Open p → meaning p ≡ Err fault → priced meaning (open_from n es) ≡ Err (no_price (n + i) fault)
-  refused-from n [] i p fault so is none = absurd (grind arith)
-  refused-from n (Vacant ∷ es) zero p fault so is none = absurd (grind arith)
-  refused-from n (Vacant ∷ es) (suc i) p fault so is none =
-      refused-from (n + 1) es i p fault (λ k h. so (suc k) (omega arith)) is none ∙ ap (λ m. Err (no_price m fault)) (omega arith)
-  refused-from n (Open q ∷ es) zero p fault so is none =
+  refused_from n [] i p fault so is none = absurd (grind arith)
+  refused_from n (Vacant ∷ es) zero p fault so is none = absurd (grind arith)
+  refused_from n (Vacant ∷ es) (suc i) p fault so is none =
+      refused_from (n + 1) es i p fault (λ k h. so (suc k) (omega arith)) is none ∙ ap (λ m. Err (no_price m fault)) (omega arith)
+  refused_from n (Open q ∷ es) zero p fault so is none =
       let same : q ≡ p = cc in
       ap (λ answer. priced_as (record { number = n; of = q }) answer (priced meaning (open_from (n + 1) es))) (ap meaning same ∙ none)
       ∙ ap (λ m. Err (no_price m fault)) (sym (add-zero n))
-  refused-from n (Open q ∷ es) (suc i) p fault so is none =
+  refused_from n (Open q ∷ es) (suc i) p fault so is none =
       let here = so 0 (omega arith) q refl in
       ap (λ answer. priced_as (record { number = n; of = q }) answer (priced meaning (open_from (n + 1) es))) here.1
       ∙ ap (followed_by (record { number = n; price = here.0; «record» = q }))
-      (refused-from (n + 1) es i p fault (λ k h. so (suc k) (omega arith)) is none)
+      (refused_from (n + 1) es i p fault (λ k h. so (suc k) (omega arith)) is none)
       ∙ ap (λ m. Err (no_price m fault)) (omega arith)
-  refused-from n (Withdrawn q ∷ es) zero p fault so is none = absurd (grind arith)
-  refused-from n (Withdrawn q ∷ es) (suc i) p fault so is none =
-      refused-from (n + 1) es i p fault (λ k h. so (suc k) (omega arith)) is none ∙ ap (λ m. Err (no_price m fault)) (omega arith)
+  refused_from n (Withdrawn q ∷ es) zero p fault so is none = absurd (grind arith)
+  refused_from n (Withdrawn q ∷ es) (suc i) p fault so is none =
+      refused_from (n + 1) es i p fault (λ k h. so (suc k) (omega arith)) is none ∙ ap (λ m. Err (no_price m fault)) (omega arith)
 
   -- so does the open package at a place, where those before it have prices
   pub refused_at : (es : List (Entry Package)) (prices : List ℤ) (i : ℕ) (p : Package) (fault : Fault) → PricedTo meaning es i prices
       → get_or es i Vacant ≡ Open p → meaning p ≡ Err fault → priced meaning (open_from 1 es) ≡ Err (no_price (i + 1) fault)
   refused_at es prices i p fault so is none =
-      refused-from 1 es i p fault (λ k h q there. (get_or prices k (pos 0), so k h q there)) is none
+      refused_from 1 es i p fault (λ k h q there. (get_or prices k (pos 0), so k h q there)) is none
       ∙ ap (λ m. Err (no_price m fault)) (omega arith)
 
 -- The prices so far are in range and those that a rule means, and the rule still means what it meant.
@@ -92,9 +92,9 @@ pub record Pricing (meaning now : Meaning) (es : List (Entry Package)) (i : ℕ)
 
 module _ (meaning now : Meaning) (es : List (Entry Package)) (i : ℕ) (prices : List ℤ) (before : Pricing meaning now es i prices) where
   -- an entry that is not open
-  pub none-priced : (next : List ℤ) (later : Meaning) → ((p : Package) → get_or es i Vacant ≡ Open p → ⊥) → next ≡ prices → later ≡ now
+  pub none_priced : (next : List ℤ) (later : Meaning) → ((p : Package) → get_or es i Vacant ≡ Open p → ⊥) → next ≡ prices → later ≡ now
       → Pricing meaning later es (i + 1) next
-  none-priced next later shut e same = record {
+  none_priced next later shut e same = record {
     long = ap length e ∙ before.long;
     fit = rw e before.fit;
     same = same ∙ before.same;
@@ -102,9 +102,9 @@ module _ (meaning now : Meaning) (es : List (Entry Package)) (i : ℕ) (prices :
   }
 
   -- an open entry
-  pub one-priced : (p : Package) (price : ℤ) (next : List ℤ) (later : Meaning) → i < length es → get_or es i Vacant ≡ Open p
+  pub one_priced : (p : Package) (price : ℤ) (next : List ℤ) (later : Meaning) → i < length es → get_or es i Vacant ≡ Open p
       → Ok price ≡ now p → price_fits price ≡ true → next ≡ set prices i price → later ≡ now → Pricing meaning later es (i + 1) next
-  one-priced p price next later inside is answer fits e same = record {
+  one_priced p price next later inside is answer fits e same = record {
     long = ap length e ∙ length-set prices i price ∙ before.long;
     fit = rw e (each_set price_fits prices i price fits before.fit);
     same = same ∙ before.same;

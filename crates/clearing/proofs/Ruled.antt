@@ -97,8 +97,8 @@ module _ (d : Docket) (choice : ℕ) where
         }
 
     -- and a choice that is lawful with them keeps the rules
-    pub ruled-from : Lawful (view d) choice sales → Ruled (view d) t s
-    ruled-from lawful =
+    pub ruled_from : Lawful (view d) choice sales → Ruled (view d) t s
+    ruled_from lawful =
         let percent = percentage (vec_items d.limits) in
         record {
           pairs = (pairs-same chosen t counted chosen t counted (vec_items d.pairs) d.pairs_fit).1 lawful.pairs;

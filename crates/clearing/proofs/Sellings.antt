@@ -9,7 +9,7 @@ use Rattle.clearing.specs.Ranges.{each, band_fits}
 use Rattle.clearing.specs.Sales.{filled, sold_in, income, sales_of}
 use Rattle.clearing.specs.Tallies.{row}
 use Rattle.clearing.proofs.Fits.{each_take, each-most, OpenRanges, open_ranges}
-use Rattle.clearing.proofs.Held.{no_band, band-ranged}
+use Rattle.clearing.proofs.Held.{no_band, band_ranged}
 use Rattle.clearing.proofs.Rows.{length-row, plus_one, plus_where, where_most}
 use Rattle.clearing.proofs.Totals.{total-append, total-most, totals_append, totals_most}
 
@@ -27,8 +27,8 @@ pub record Sold (s : Sales) : Type 0 where
 
 module _ (supply : List ℕ) where
   -- what a band is sold in a market
-  abbrev sold-amount : ℕ → OpenBand → ℕ
-  sold-amount m b = where_so (eqb b.«record».market m) (filled supply b)
+  abbrev sold_amount : ℕ → OpenBand → ℕ
+  sold_amount m b = where_so (eqb b.«record».market m) (filled supply b)
 
   -- a band is sold no more than its quantity
   pub filled-most : (b : OpenBand) → OpenRanges b → filled supply b ≤ 100000000
@@ -39,8 +39,8 @@ module _ (supply : List ℕ) where
   paid-most b r = mul-le-mul (filled-most b r) r.of_record.price
 
   -- what is sold with one band more is added at its market's place
-  pub sales-last : (bs : List OpenBand) (b : OpenBand) → OpenRanges b → with_sale (sales_of bs supply) b (filled supply b) ≡ sales_of (bs ++ b ∷ []) supply
-  sales-last bs b r =
+  pub sales_last : (bs : List OpenBand) (b : OpenBand) → OpenRanges b → with_sale (sales_of bs supply) b (filled supply b) ≡ sales_of (bs ++ b ∷ []) supply
+  sales_last bs b r =
       let before = row (sold_in bs supply) 1 5 in
       let market = b.«record».market in
       let long = length-row (sold_in bs supply) 1 5 in
@@ -48,7 +48,7 @@ module _ (supply : List ℕ) where
       let sold : set before (market - 1) (get_or before (market - 1) 0 + filled supply b) ≡ row (sold_in (bs ++ b ∷ []) supply) 1 5 =
       plus_one before market (filled supply b) 1 5 (market - 1) long (omega arith) (omega arith)
       ∙ sym (plus_where true before here 1 5 long)
-      ∙ sym (totals_append sold-amount bs (b ∷ []) 1 5) in
+      ∙ sym (totals_append sold_amount bs (b ∷ []) 1 5) in
       let paid : income bs supply + filled supply b * b.«record».price ≡ income (bs ++ b ∷ []) supply =
       omega (arith, total-append (λ b. filled supply b * b.«record».price) bs (b ∷ [])) in
       λ i. record { sold = sold i; income = paid i }
@@ -57,15 +57,15 @@ module _ (supply : List ℕ) where
   pub sales-bounded : (bs : List OpenBand) → each band_fits bs ≡ true → length bs ≤ 64 → Sold (sales_of bs supply)
   sales-bounded bs ok short = record {
     sold =
-        totals_most band_fits sold-amount 64 100000000 6400000000 bs 1 5
+        totals_most band_fits sold_amount 64 100000000 6400000000 bs 1 5
         (λ m b e. where_most _ (filled supply b) 100000000 (filled-most b (open_ranges b e))) ok short (omega arith);
     income =
         omega (arith, total-most band_fits (λ b. filled supply b * b.«record».price) 1000000000000000 bs (λ b e. paid-most b (open_ranges b e)) ok);
   }
 
   -- so with all bands of a docket
-  pub sold-in-all : (d : Docket) → Sold (sales_of (vec_items d.bands) supply)
-  sold-in-all d = sales-bounded (vec_items d.bands) d.bands_fit (omega (arith, d.bands.ok.0, d.few_bands))
+  pub sold_in_all : (d : Docket) → Sold (sales_of (vec_items d.bands) supply)
+  sold_in_all d = sales-bounded (vec_items d.bands) d.bands_fit (omega (arith, d.bands.ok.0, d.few_bands))
 
 -- What a turn over the bands has room for, and what it leaves: the band is at place i, and is sold so much.
 pub record Turn (supply : List ℕ) (bs : List OpenBand) (i : ℕ) (before : Sales) (sold : ℕ) : Type 0 where
@@ -81,7 +81,7 @@ pub turn : (d : Docket) (supply : List ℕ) (bs : List OpenBand) (i : ℕ) (befo
     → before ≡ sales_of (take i bs) supply → sold ≡ filled supply (get_or bs i no_band) → Turn supply bs i before sold
 turn d supply bs i before sold held inside so_far is =
     let b = get_or bs i no_band in
-    let ranges = band-ranged d i bs held inside in
+    let ranges = band_ranged d i bs held inside in
     let few : length (take i bs) ≤ 64 = simp length-take (omega (arith, ap length held, d.bands.ok.0, d.few_bands)) in
     let bounds = subst Sold (sym so_far) (sales-bounded supply (take i bs) (each_take band_fits i bs (rw held d.bands_fit)) few) in
     let most = filled-most supply b ranges in
@@ -93,5 +93,5 @@ turn d supply bs i before sold held inside so_far is =
       sum = omega (arith, each-most 6400000000 before.sold (b.«record».market - 1) bounds.sold);
       paid = omega arith;
       income = omega (arith, bounds.income);
-      next = ap₂ (λ s n. with_sale s b n) so_far is ∙ sales-last supply (take i bs) b ranges ∙ ap (λ cs. sales_of cs supply) (sym (take_more bs i no_band inside));
+      next = ap₂ (λ s n. with_sale s b n) so_far is ∙ sales_last supply (take i bs) b ranges ∙ ap (λ cs. sales_of cs supply) (sym (take_more bs i no_band inside));
     }

@@ -28,15 +28,15 @@ rises-at bs i d inside e =
 
 module _ (supply : List ℕ) (b : OpenBand) where
   -- the last band is sold by its number, if those before it have smaller ones
-  last-sale : (bs : List OpenBand) → All (λ a. a.number < b.number) bs → sale_of (bs ++ b ∷ []) supply b.number ≡ filled supply b
-  last-sale [] small = cond-true (eqb b.number b.number) _ _ (eq-eqb b.number b.number (omega arith))
-  last-sale (a ∷ bs) small =
-      cond-false (eqb a.number b.number) _ _ (ne_eqb a.number b.number (λ e. omega (arith, small.0))) ∙ last-sale bs small.1
+  last_sale : (bs : List OpenBand) → All (λ a. a.number < b.number) bs → sale_of (bs ++ b ∷ []) supply b.number ≡ filled supply b
+  last_sale [] small = cond-true (eqb b.number b.number) _ _ (eq-eqb b.number b.number (omega arith))
+  last_sale (a ∷ bs) small =
+      cond-false (eqb a.number b.number) _ _ (ne_eqb a.number b.number (λ e. omega (arith, small.0))) ∙ last_sale bs small.1
 
   -- any other number is sold what it was
-  other-sale : (bs : List OpenBand) (n : ℕ) → (n ≡ b.number → ⊥) → sale_of (bs ++ b ∷ []) supply n ≡ sale_of bs supply n
-  other-sale [] n ne = cond-false (eqb b.number n) _ _ (ne_eqb b.number n (λ e. ne (sym e)))
-  other-sale (a ∷ bs) n ne = ap (cond (eqb a.number n) (filled supply a)) (other-sale bs n ne)
+  other_sale : (bs : List OpenBand) (n : ℕ) → (n ≡ b.number → ⊥) → sale_of (bs ++ b ∷ []) supply n ≡ sale_of bs supply n
+  other_sale [] n ne = cond-false (eqb b.number n) _ _ (ne_eqb b.number n (λ e. ne (sym e)))
+  other_sale (a ∷ bs) n ne = ap (cond (eqb a.number n) (filled supply a)) (other_sale bs n ne)
 
 -- the row with one band more
 pub served_more : (supply : List ℕ) (bs : List OpenBand) (i : ℕ) (d : OpenBand) → i < length bs → rising bs ≡ true → 1 ≤ (get_or bs i d).number
@@ -46,5 +46,5 @@ served_more supply bs i d inside e least =
     let number : 1 + (b.number - 1) ≡ b.number = omega arith in
     let last = ap (λ cs. sale_of cs supply) (take_more bs i d inside) in
     sym (row-set (sale_of (take i bs) supply) (sale_of (take (i + 1) bs) supply) (filled supply b) 1 64 (b.number - 1)
-    (ap (λ f. f (1 + (b.number - 1))) last ∙ ap (sale_of (take i bs ++ b ∷ []) supply) number ∙ last-sale supply b (take i bs) (rises-at bs i d inside e))
-    (λ n ne. ap (λ f. f n) last ∙ other-sale supply b (take i bs) n (λ is. ne (is ∙ sym number))))
+    (ap (λ f. f (1 + (b.number - 1))) last ∙ ap (sale_of (take i bs ++ b ∷ []) supply) number ∙ last_sale supply b (take i bs) (rises-at bs i d inside e))
+    (λ n ne. ap (λ f. f n) last ∙ other_sale supply b (take i bs) n (λ is. ne (is ∙ sym number))))

@@ -9,7 +9,7 @@ use Rattle.clearing.specs.declared.tallies.Tally.{Tally}
 use Rattle.clearing.specs.Choices.{taken}
 use Rattle.clearing.specs.Ranges.{each, package_fits}
 use Rattle.clearing.specs.Tallies.{tally_of, added}
-use Rattle.clearing.proofs.Fits.{each-push}
+use Rattle.clearing.proofs.Fits.{each_push}
 use Rattle.clearing.proofs.Tallying.{tally_last, Bounded, tally_bounded, cost_between, Priced}
 
 -- what is taken of packages in range is in range
@@ -29,24 +29,24 @@ taken-few (p ∷ ps) choice =
 
 module _ (d : Docket) (choice : ℕ) where
   -- what a choice takes of a docket is in range
-  taken-ok : each package_fits (taken (vec_items d.packages) choice) ≡ true
-  taken-ok = taken-fits package_fits (vec_items d.packages) choice d.packages_fit
+  taken_ok : each package_fits (taken (vec_items d.packages) choice) ≡ true
+  taken_ok = taken-fits package_fits (vec_items d.packages) choice d.packages_fit
 
   -- and no more than 40
-  taken-short : length (taken (vec_items d.packages) choice) ≤ 40
-  taken-short = omega (arith, taken-few (vec_items d.packages) choice, d.packages.ok.0, d.few_packages)
+  taken_short : length (taken (vec_items d.packages) choice) ≤ 40
+  taken_short = omega (arith, taken-few (vec_items d.packages) choice, d.packages.ok.0, d.few_packages)
 
   -- so its sums are bounded
   pub taken-bounded : Bounded 400000000 (tally_of (taken (vec_items d.packages) choice))
-  taken-bounded = tally_bounded 40 (taken (vec_items d.packages) choice) taken-ok taken-short
+  taken-bounded = tally_bounded 40 (taken (vec_items d.packages) choice) taken_ok taken_short
 
   -- and so is its cost
   pub taken-priced : Priced (tally_of (taken (vec_items d.packages) choice))
   taken-priced =
-      let between = cost_between (taken (vec_items d.packages) choice) taken-ok in
+      let between = cost_between (taken (vec_items d.packages) choice) taken_ok in
       record {
-        low = omega (arith, ints, between.0, taken-short);
-        high = omega (arith, ints, between.1, taken-short);
+        low = omega (arith, ints, between.0, taken_short);
+        high = omega (arith, ints, between.1, taken_short);
       }
 
 -- A choice taken of the first so many packages: what is taken so far, and that the digits left take the rest.
@@ -73,8 +73,8 @@ module _ (items : List PricedPackage) (choice : ℕ) where
         ap (λ qs. now.so_far ++ qs) (sym (first ∙ e)) ∙ now.rest
 
     -- a package that is not taken
-    pub partly-passed : (next : Tally) → (digits % 2 ≡ 1 → ⊥) → next ≡ sums → Partly items choice (i + 1) next (digits / 2)
-    partly-passed next skip same = record {
+    pub partly_passed : (next : Tally) → (digits % 2 ≡ 1 → ⊥) → next ≡ sums → Partly items choice (i + 1) next (digits / 2)
+    partly_passed next skip same = record {
       so_far = now.so_far;
       few = omega arith;
       fit = now.fit;
@@ -83,12 +83,12 @@ module _ (items : List PricedPackage) (choice : ℕ) where
     }
 
     -- a package that is taken
-    pub partly-taken : (next : Tally) → digits % 2 ≡ 1 → package_fits (get_or items i d) ≡ true → next ≡ added sums (get_or items i d)
+    pub partly_taken : (next : Tally) → digits % 2 ≡ 1 → package_fits (get_or items i d) ≡ true → next ≡ added sums (get_or items i d)
         → Partly items choice (i + 1) next (digits / 2)
-    partly-taken next one fit more = record {
+    partly_taken next one fit more = record {
       so_far = now.so_far ++ get_or items i d ∷ [];
       few = omega (arith, length_push now.so_far (get_or items i d));
-      fit = each-push package_fits now.so_far (get_or items i d) now.fit fit;
+      fit = each_push package_fits now.so_far (get_or items i d) now.fit fit;
       come_to = more ∙ ap (λ t. added t (get_or items i d)) now.come_to ∙ sym (tally_last now.so_far (get_or items i d));
       rest =
           append_assoc now.so_far (get_or items i d ∷ []) (taken (drop (i + 1) items) (digits / 2))
@@ -96,8 +96,8 @@ module _ (items : List PricedPackage) (choice : ℕ) where
     }
 
   -- at the end all is taken
-  pub partly-all : (i : ℕ) (sums : Tally) (digits : ℕ) → length items ≤ i → Partly items choice i sums digits → sums ≡ tally_of (taken items choice)
-  partly-all i sums digits past now =
+  pub partly_all : (i : ℕ) (sums : Tally) (digits : ℕ) → length items ≤ i → Partly items choice i sums digits → sums ≡ tally_of (taken items choice)
+  partly_all i sums digits past now =
       let none : taken (drop i items) digits ≡ [] = at_drop_all (λ ps. taken ps digits) items i past in
       now.come_to
       ∙ ap tally_of (sym (append-nil now.so_far) ∙ ap (λ qs. now.so_far ++ qs) (sym none) ∙ now.rest)

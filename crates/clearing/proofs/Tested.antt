@@ -20,13 +20,13 @@ module _ {X : Type 0} (P : X → Type 0) (xs ys : List X) (same : xs ≡ ys) (i 
   all_tested past so = decided_true (subst (All P) (take_all i xs past ∙ same) so)
 
   -- one element that does not keep it fails the list
-  pub one-fails : (d : X) → i < length xs → (P (get_or xs i d) → ⊥) → Decides false (All P ys)
-  one-fails d inside fails = decided_false (λ so. fails (All-get_or P xs i d inside (subst (All P) (sym same) so)))
+  pub one_fails : (d : X) → i < length xs → (P (get_or xs i d) → ⊥) → Decides false (All P ys)
+  one_fails d inside fails = decided_false (λ so. fails (All-get_or P xs i d inside (subst (All P) (sym same) so)))
 
 module _ (sort nameplate export amount load : ℕ) (is : load ≡ cond (eqb sort 1) nameplate (cond (eqb sort 2) export 0)) where
   -- a load within its limit, by the limit's sort
-  pub load-within : load ≤ amount → (sort ≡ 1 → nameplate ≤ amount) × (sort ≡ 2 → export ≤ amount)
-  load-within h = (
+  pub load_within : load ≤ amount → (sort ≡ 1 → nameplate ≤ amount) × (sort ≡ 2 → export ≤ amount)
+  load_within h = (
     (λ one. let at_one = cond-true (eqb sort 1) nameplate (cond (eqb sort 2) export 0) (eq-eqb sort 1 one) in omega arith),
     (λ two.
         let not-one = cond-false (eqb sort 1) nameplate (cond (eqb sort 2) export 0) (ne_eqb sort 1 (λ one. omega arith)) in

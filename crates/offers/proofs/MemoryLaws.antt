@@ -9,7 +9,7 @@ use Rattle.offers.specs.declared.memory.Kind.{Kind}
 use Rattle.offers.specs.declared.memory.Kind.TheVariants as kind
 use Rattle.offers.specs.Registers.{Outcome, filing, withdrawing, Onward}
 use Rattle.offers.specs.Memory.{Entries, RecordOf, layout_of, entries_of, with_entries, lifted, file_kind, file_offer, withdraw_offer, Kept}
-use Rattle.offers.proofs.RegisterLaws.{onward-same, Moves, Fair, filing-moved, filing-fair, withdrawing-moved, withdrawing-fair}
+use Rattle.offers.proofs.RegisterLaws.{onward-same, Moves, Fair, filing_moved, filing_fair, withdrawing_moved, withdrawing_fair}
 
 -- the entries of a kind put back leave all as it was
 pub with_own : (all : Entries) (k : Kind) → with_entries all k (entries_of all k) ≡ all
@@ -60,24 +60,24 @@ lifted_kept all k n o moved fair = record {
   carries = fair;
 }
 
-filed-kind_kept : (all : Entries) (n : ℕ) (k : Kind) (r : RecordOf k) → Kept all (file_kind all n k r).answer (file_kind all n k r).left
-filed-kind_kept all n k r =
+filed_kind_kept : (all : Entries) (n : ℕ) (k : Kind) (r : RecordOf k) → Kept all (file_kind all n k r).answer (file_kind all n k r).left
+filed_kind_kept all n k r =
     lifted_kept all k n (filing (layout_of k) (entries_of all k) n r)
-    (filing-moved (layout_of k) (entries_of all k) n r)
-    (filing-fair (layout_of k) (entries_of all k) n r)
+    (filing_moved (layout_of k) (entries_of all k) n r)
+    (filing_fair (layout_of k) (entries_of all k) n r)
 
 pub file_kept : (all : Entries) (n : ℕ) (x : Offer) → Kept all (file_offer all n x).answer (file_offer all n x).left
-file_kept all n (offer.Package r) = filed-kind_kept all n kind.Package r
-file_kept all n (offer.Band r) = filed-kind_kept all n kind.Band r
-file_kept all n (offer.Pair r) = filed-kind_kept all n kind.Pair r
-file_kept all n (offer.Exclusion r) = filed-kind_kept all n kind.Exclusion r
-file_kept all n (offer.Limit r) = filed-kind_kept all n kind.Limit r
+file_kept all n (offer.Package r) = filed_kind_kept all n kind.Package r
+file_kept all n (offer.Band r) = filed_kind_kept all n kind.Band r
+file_kept all n (offer.Pair r) = filed_kind_kept all n kind.Pair r
+file_kept all n (offer.Exclusion r) = filed_kind_kept all n kind.Exclusion r
+file_kept all n (offer.Limit r) = filed_kind_kept all n kind.Limit r
 
 pub withdraw_kept : (all : Entries) (k : Kind) (n : ℕ) → Kept all (withdraw_offer all k n).answer (withdraw_offer all k n).left
 withdraw_kept all k n =
     lifted_kept all k n (withdrawing (layout_of k) (entries_of all k) n)
-    (withdrawing-moved (layout_of k) (entries_of all k) n)
-    (withdrawing-fair (layout_of k) (entries_of all k) n)
+    (withdrawing_moved (layout_of k) (entries_of all k) n)
+    (withdrawing_fair (layout_of k) (entries_of all k) n)
 
 -- the same of an answer and entries that are those of filing
 pub filed_kept : (all : Entries) (n : ℕ) (x : Offer) (answer : Result Unit Refusal) (after : Entries) → answer ≡ (file_offer all n x).answer → after ≡ (file_offer all n x).left → Kept all answer after

@@ -65,8 +65,8 @@ module _ {R : Type 0} (k : Layout R) (es : List (Entry R)) (n : ℕ) where
   over-filed r low high (Open old) e = refused_moved es n (refused_at AlreadyOpen k.tag n 0)
   over-filed r low high (Withdrawn old) e = refused_moved es n (refused_at AlreadyWithdrawn k.tag n 0)
 
-  pub filing-moved : (r : R) → Moves es n (filing k es n r)
-  filing-moved r =
+  pub filing_moved : (r : R) → Moves es n (filing k es n r)
+  filing_moved r =
       cond_both (numbered k es n) _ _ (Moves es n)
       (λ e. cond_both (eqb (fault_of k r) 0) _ _ (Moves es n)
       (λ _. over-filed r (inside e).0 (inside e).1 (entry es n) refl)
@@ -78,8 +78,8 @@ module _ {R : Type 0} (k : Layout R) (es : List (Entry R)) (n : ℕ) where
   over-withdrawn low high (Open r) e = accepted_moved es n (Withdrawn r) low high (rw e (inr refl))
   over-withdrawn low high (Withdrawn r) e = refused_moved es n (refused_at AlreadyWithdrawn k.tag n 0)
 
-  pub withdrawing-moved : Moves es n (withdrawing k es n)
-  withdrawing-moved =
+  pub withdrawing_moved : Moves es n (withdrawing k es n)
+  withdrawing_moved =
       cond_both (numbered k es n) _ _ (Moves es n)
       (λ e. over-withdrawn (inside e).0 (inside e).1 (entry es n) refl)
       (λ _. refused_moved es n (refused_at NumberOutside k.tag n 0))
@@ -97,29 +97,29 @@ module _ {R : Type 0} (k : Layout R) (es : List (Entry R)) (n : ℕ) where
   plain-refusal : (code : Code) → Carries (refused_at code k.tag n 0) → Fair (refuse k es code n 0)
   plain-refusal code = fair_refusal es (refused_at code k.tag n 0)
 
-  over-filed-fair : (r : R) (held : Entry R) → Fair (file_over k es n r held)
-  over-filed-fair r Vacant = λ said e. absurd (not_both said e)
-  over-filed-fair r (Open old) = plain-refusal AlreadyOpen (record { tag = tt; number = tt; field = refl; byte = refl; depth = refl })
-  over-filed-fair r (Withdrawn old) = plain-refusal AlreadyWithdrawn (record { tag = tt; number = tt; field = refl; byte = refl; depth = refl })
+  over-filed_fair : (r : R) (held : Entry R) → Fair (file_over k es n r held)
+  over-filed_fair r Vacant = λ said e. absurd (not_both said e)
+  over-filed_fair r (Open old) = plain-refusal AlreadyOpen (record { tag = tt; number = tt; field = refl; byte = refl; depth = refl })
+  over-filed_fair r (Withdrawn old) = plain-refusal AlreadyWithdrawn (record { tag = tt; number = tt; field = refl; byte = refl; depth = refl })
 
-  outside-fair : Fair (refuse k es NumberOutside n 0)
-  outside-fair = plain-refusal NumberOutside (record { tag = tt; number = tt; field = refl; byte = tt; depth = refl })
+  outside_fair : Fair (refuse k es NumberOutside n 0)
+  outside_fair = plain-refusal NumberOutside (record { tag = tt; number = tt; field = refl; byte = tt; depth = refl })
 
-  pub filing-fair : (r : R) → Fair (filing k es n r)
-  filing-fair r =
+  pub filing_fair : (r : R) → Fair (filing k es n r)
+  filing_fair r =
       cond_both (numbered k es n) _ _ Fair
       (λ _. cond_both (eqb (fault_of k r) 0) _ _ Fair
-      (λ _. over-filed-fair r (entry es n))
+      (λ _. over-filed_fair r (entry es n))
       (λ _. fair_refusal es (refused_at FieldOutside k.tag n (fault_of k r)) (record { tag = tt; number = tt; field = tt; byte = tt; depth = refl })))
-      (λ _. outside-fair)
+      (λ _. outside_fair)
 
-  over-withdrawn-fair : (held : Entry R) → Fair (withdraw_over k es n held)
-  over-withdrawn-fair Vacant = plain-refusal NotFiled (record { tag = tt; number = tt; field = refl; byte = refl; depth = refl })
-  over-withdrawn-fair (Open r) = λ said e. absurd (not_both said e)
-  over-withdrawn-fair (Withdrawn r) = plain-refusal AlreadyWithdrawn (record { tag = tt; number = tt; field = refl; byte = refl; depth = refl })
+  over-withdrawn_fair : (held : Entry R) → Fair (withdraw_over k es n held)
+  over-withdrawn_fair Vacant = plain-refusal NotFiled (record { tag = tt; number = tt; field = refl; byte = refl; depth = refl })
+  over-withdrawn_fair (Open r) = λ said e. absurd (not_both said e)
+  over-withdrawn_fair (Withdrawn r) = plain-refusal AlreadyWithdrawn (record { tag = tt; number = tt; field = refl; byte = refl; depth = refl })
 
-  pub withdrawing-fair : Fair (withdrawing k es n)
-  withdrawing-fair = cond_both (numbered k es n) _ _ Fair (λ _. over-withdrawn-fair (entry es n)) (λ _. outside-fair)
+  pub withdrawing_fair : Fair (withdrawing k es n)
+  withdrawing_fair = cond_both (numbered k es n) _ _ Fair (λ _. over-withdrawn_fair (entry es n)) (λ _. outside_fair)
 
 -- a register with one entry set is in range if that entry's record is
 pub set-in_range : {R : Type 0} (k : Layout R) (es : List (Entry R)) (at : ℕ) (e : Entry R) → InRange k es → held_fault k e ≡ 0 → InRange k (set es at e)

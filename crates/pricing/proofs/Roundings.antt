@@ -17,9 +17,9 @@ with_no_rest (pos n) e = omega (arith, ints)
 with_no_rest (negsuc n) e = omega (arith, ints)
 
 -- it is not below
-pub rounded_not-below : (z : ℤ) → z ≤ℤ (pos 100000000 *ℤ hundred_millionth z)
-rounded_not-below (pos n) = omega (arith, ints)
-rounded_not-below (negsuc n) = omega (arith, ints)
+pub rounded_not_below : (z : ℤ) → z ≤ℤ (pos 100000000 *ℤ hundred_millionth z)
+rounded_not_below (pos n) = omega (arith, ints)
+rounded_not_below (negsuc n) = omega (arith, ints)
 
 -- one less is below
 pub rounded_smallest : (z : ℤ) → (pos 100000000 *ℤ hundred_millionth z) <ℤ (z +ℤ pos 100000000)

@@ -17,7 +17,7 @@ use Rattle.bounds.specs.declared.blocks.Block.{Block}
 use Rattle.bounds.specs.Blocks.{Answers, InDocket, InBlock, Claims}
 use Rattle.rounds.specs.declared.positions.Position.{Position}
 use Rattle.rounds.specs.Search.{Placed, Leads, start, next_block, hopeless, settle, lead, step, finished, steps}
-use Rattle.rounds.proofs.Placings.{step-cases, steps-keep}
+use Rattle.rounds.proofs.Placings.{step_cases, steps_keep}
 
 -- choice 0 takes nothing
 taken_none : (ps : List PricedPackage) → taken ps 0 ≡ []
@@ -100,8 +100,8 @@ finished-best v at leads e = subst (λ n. BestBelow v n at.leader) (eqb-true at.
 
 module _ (v : View) (ranged : Ranged v) where
   -- nothing is sold of choice 0
-  none-sold : (m : ℕ) → sold v.bands (filled_sales v 0) m ≤ 0
-  none-sold m =
+  none_sold : (m : ℕ) → sold v.bands (filled_sales v 0) m ≤ 0
+  none_sold m =
       let within = filled_within v 0 m ranged.order ranged.bands in
       subst (λ T. sold v.bands (filled_sales v 0) m ≤ supply m T) (taken_none v.packages) within
 
@@ -112,24 +112,24 @@ module _ (v : View) (ranged : Ranged v) where
       below = omega arith;
       lawful =
           subst (λ T. LawfulFor v T (filled_sales v 0)) (sym (taken_none v.packages))
-          (none_lawful v (filled_sales v 0) (filled_small (row (λ m. supply m (taken v.packages 0)) 1 5) v.bands) none-sold);
+          (none_lawful v (filled_sales v 0) (filled_small (row (λ m. supply m (taken v.packages 0)) 1 5) v.bands) none_sold);
       greatest = λ other sales below lawful.
           same_choice v 0 other sales (surplus v 0 (filled_sales v 0)) (omega arith) (filled-most v ranged 0 sales) lawful;
       earliest = λ other sales below lawful same. omega arith;
     };
-    worth = rw (unsold_unpaid v.bands (filled_sales v 0) none-sold, taken_none v.packages) refl;
+    worth = rw (unsold_unpaid v.bands (filled_sales v 0) none_sold, taken_none v.packages) refl;
   }
 
   -- one choice more is settled under the same leader if it is not worth more
-  one-stays : (at : Position) → Leads v at → ((sales : List ℕ) → Lawful v at.settled sales → surplus v at.settled sales ≤ℤ at.surplus) → Leads v (settle at 1)
-  one-stays at leads most =
+  one_stays : (at : Position) → Leads v at → ((sales : List ℕ) → Lawful v at.settled sales → surplus v at.settled sales ≤ℤ at.surplus) → Leads v (settle at 1)
+  one_stays at leads most =
       stay_leads v at 1 leads
       (λ other sales from to. same_choice v at.settled other sales at.surplus (omega arith) (most sales))
 
   -- one that is lawful and worth more leads, since all before it are worth less
-  one-leads : (at : Position) (worth : ℤ) → Worth v at.settled (Some worth) → Leads v at → lt_z at.surplus worth ≡ true
+  one_leads : (at : Position) (worth : ℤ) → Worth v at.settled (Some worth) → Leads v at → lt_z at.surplus worth ≡ true
       → Leads v (settle (record { settled = at.settled; free = at.free; leader = at.settled; surplus = worth }) 1)
-  one-leads at worth known leads e =
+  one_leads at worth known leads e =
       let less = λ (other : ℕ) (sales : List ℕ) (h : other < at.settled) (lawful : Lawful v other sales).
       below_more _ _ at.surplus worth _ (leads.best.greatest other sales h lawful) leads.worth e known.1 in
       record {
@@ -151,12 +151,12 @@ module _ (v : View) (ranged : Ranged v) where
       }
 
   -- a choice that is tried leads if it is lawful and worth more
-  try-leads : (at : Position) (worth : Option ℤ) → Worth v at.settled worth → Leads v at → Leads v (settle (lead at worth) 1)
-  try-leads at None never leads = one-stays at leads (λ sales lawful. absurd (never sales lawful))
-  try-leads at (Some worth) known leads =
+  try_leads : (at : Position) (worth : Option ℤ) → Worth v at.settled worth → Leads v at → Leads v (settle (lead at worth) 1)
+  try_leads at None never leads = one_stays at leads (λ sales lawful. absurd (never sales lawful))
+  try_leads at (Some worth) known leads =
       cond_both (lt_z at.surplus worth) _ _ (λ (a : Position). Leads v (settle a 1))
-      (one-leads at worth known leads)
-      (λ e. one-stays at leads (λ sales lawful. not-above _ _ at.surplus worth (filled-most v ranged at.settled sales lawful) e known.1))
+      (one_leads at worth known leads)
+      (λ e. one_stays at leads (λ sales lawful. not-above _ _ at.surplus worth (filled-most v ranged at.settled sales lawful) e known.1))
 
   module _ (rule : Answers) (judged : (c : ℕ) → Worth v c (worth_of v c)) (sound : (b : Block) → InDocket v b → Claims v b (rule v b)) where
     -- a hopeless block is settled without a look
@@ -169,11 +169,11 @@ module _ (v : View) (ranged : Ranged v) where
     -- a step keeps the leader the best
     pub step-leads : (at : Position) → Placed v at → at.settled < choices v → Leads v at → Leads v (step rule v at)
     step-leads at placed below leads =
-        step-cases rule v (Leads v) at
+        step_cases rule v (Leads v) at
         (skip_leads at placed below leads)
         (λ _. record { best = leads.best; worth = leads.worth })
-        (λ _. try-leads at (worth_of v at.settled) (judged at.settled) leads)
+        (λ _. try_leads at (worth_of v at.settled) (judged at.settled) leads)
 
     -- so do any number of steps
     pub steps-leads : (count : ℕ) (at : Position) → Placed v at → Leads v at → Leads v (steps rule v count at)
-    steps-leads count at placed leads = steps-keep rule v (Leads v) step-leads count at placed leads
+    steps-leads count at placed leads = steps_keep rule v (Leads v) step-leads count at placed leads

@@ -30,8 +30,8 @@ module _ (v : View) where
   }
 
   -- with more choices settled it stays placed, whatever the next block was
-  more-placed : (at : Position) (more : ℕ) → 1 ≤ at.settled → at.settled + more ≤ choices v → Placed v (settle at more)
-  more-placed at more some most = record {
+  more_placed : (at : Position) (more : ℕ) → 1 ≤ at.settled → at.settled + more ≤ choices v → Placed v (settle at more)
+  more_placed at more some most = record {
     some = omega arith;
     most = most;
     block = λ below. record {
@@ -45,7 +45,7 @@ module _ (v : View) where
 
   -- so it does from where it is placed
   pub settle-placed : (at : Position) (more : ℕ) → Placed v at → at.settled + more ≤ choices v → Placed v (settle at more)
-  settle-placed at more placed most = more-placed at more placed.some most
+  settle-placed at more placed most = more_placed at more placed.some most
 
   -- the next block lies within the docket
   pub block_inside : (at : Position) → Placed v at → at.settled < choices v → at.settled + 2 ^ at.free ≤ choices v
@@ -81,41 +81,41 @@ module _ (v : View) where
 
 module _ (rule : Answers) (v : View) where
   -- a step is one of three: the block is skipped if it is hopeless, else halved if it has free digits, else its choice is tried
-  pub step-cases : (P : Position → Type 0) (at : Position)
+  pub step_cases : (P : Position → Type 0) (at : Position)
       → (hopeless (rule v (next_block at)) at.surplus ≡ true → P (settle at (2 ^ at.free)))
       → (0 < at.free → P (halve at))
       → (at.free ≡ 0 → P (settle (lead at (worth_of v at.settled)) 1))
       → P (step rule v at)
-  step-cases P at skip half try =
+  step_cases P at skip half try =
       cond_both (hopeless (rule v (next_block at)) at.surplus) _ _ P skip
       (λ _. cond_both (ltb 0 at.free) _ _ P (λ e. half (ltb-true 0 at.free e)) (λ e. try (omega (arith, ltb-false 0 at.free e))))
 
   -- a block of one choice that is not hopeless is tried
-  pub step-tries : (at : Position) → hopeless (rule v (next_block at)) at.surplus ≡ false → at.free ≤ 0 → step rule v at ≡ settle (lead at (worth_of v at.settled)) 1
-  step-tries at hope one = cond-false _ _ _ hope ∙ cond-false _ _ _ (le-ltb 0 at.free one)
+  pub step_tries : (at : Position) → hopeless (rule v (next_block at)) at.surplus ≡ false → at.free ≤ 0 → step rule v at ≡ settle (lead at (worth_of v at.settled)) 1
+  step_tries at hope one = cond-false _ _ _ hope ∙ cond-false _ _ _ (le-ltb 0 at.free one)
 
   -- a step leaves the search placed
   pub step-placed : (at : Position) → Placed v at → at.settled < choices v → Placed v (step rule v at)
   step-placed at placed below =
       let same = lead_settled at (worth_of v at.settled) in
-      step-cases (Placed v) at
+      step_cases (Placed v) at
       (λ _. settle-placed v at (2 ^ at.free) placed (block_inside v at placed below))
       (halve-placed v at placed)
-      (λ _. more-placed v (lead at (worth_of v at.settled)) 1 (rw same placed.some) (rw same (omega arith)))
+      (λ _. more_placed v (lead at (worth_of v at.settled)) 1 (rw same placed.some) (rw same (omega arith)))
 
   -- what each step keeps, any number of steps keep
-  pub steps-keep : (P : Position → Type 0) → ((at : Position) → Placed v at → at.settled < choices v → P at → P (step rule v at))
+  pub steps_keep : (P : Position → Type 0) → ((at : Position) → Placed v at → at.settled < choices v → P at → P (step rule v at))
       → (count : ℕ) (at : Position) → Placed v at → P at → P (steps rule v count at)
-  steps-keep P keeps zero at placed p = p
-  steps-keep P keeps (suc count) at placed p =
+  steps_keep P keeps zero at placed p = p
+  steps_keep P keeps (suc count) at placed p =
       cond_both (finished v at) _ _ P (λ _. p)
       (λ e.
       let below = unfinished v at placed e in
-      steps-keep P keeps count (step rule v at) (step-placed at placed below) (keeps at placed below p))
+      steps_keep P keeps count (step rule v at) (step-placed at placed below) (keeps at placed below p))
 
   -- so the search stays placed
   pub steps-placed : (count : ℕ) (at : Position) → Placed v at → Placed v (steps rule v count at)
-  steps-placed count at placed = steps-keep (Placed v) (λ a p below _. step-placed a p below) count at placed placed
+  steps-placed count at placed = steps_keep (Placed v) (λ a p below _. step-placed a p below) count at placed placed
 
   -- a finished search stays where it is
   finished-stays : (count : ℕ) (at : Position) → finished v at ≡ true → steps rule v count at ≡ at
@@ -127,49 +127,49 @@ module _ (rule : Answers) (v : View) where
   goes_on count at e = cond-false (finished v at) _ _ e
 
   -- one step more is a step from where the others lead
-  pub steps-more : (count : ℕ) (at : Position) → finished v (steps rule v count at) ≡ false → steps rule v (suc count) at ≡ step rule v (steps rule v count at)
-  steps-more zero at e = goes_on zero at e
-  steps-more (suc count) at e =
+  pub steps_more : (count : ℕ) (at : Position) → finished v (steps rule v count at) ≡ false → steps rule v (suc count) at ≡ step rule v (steps rule v count at)
+  steps_more zero at e = goes_on zero at e
+  steps_more (suc count) at e =
       ⊎_elim
       (λ (done : finished v at ≡ true).
       absurd (both_ways (finished v at) (subst (λ a. finished v a ≡ false) (finished-stays (suc count) at done) e) done))
       (λ (more : finished v at ≡ false).
       let next = goes_on count at more in
       goes_on (suc count) at more
-      ∙ steps-more count (step rule v at) (subst (λ a. finished v a ≡ false) next e)
+      ∙ steps_more count (step rule v at) (subst (λ a. finished v a ≡ false) next e)
       ∙ ap (step rule v) (sym next))
       (cases_Bool (finished v at))
 
   -- once finished, more steps change nothing
-  pub steps-done : (count all : ℕ) (at : Position) → finished v (steps rule v count at) ≡ true → count ≤ all → steps rule v all at ≡ steps rule v count at
-  steps-done zero all at e most = finished-stays all at e
-  steps-done (suc count) zero at e most = absurd (omega arith)
-  steps-done (suc count) (suc all) at e most =
+  pub steps_done : (count all : ℕ) (at : Position) → finished v (steps rule v count at) ≡ true → count ≤ all → steps rule v all at ≡ steps rule v count at
+  steps_done zero all at e most = finished-stays all at e
+  steps_done (suc count) zero at e most = absurd (omega arith)
+  steps_done (suc count) (suc all) at e most =
       ⊎_elim
       (λ (done : finished v at ≡ true). finished-stays (suc all) at done ∙ sym (finished-stays (suc count) at done))
       (λ (more : finished v at ≡ false).
       let next = goes_on count at more in
       goes_on all at more
-      ∙ steps-done count all (step rule v at) (subst (λ a. finished v a ≡ true) next e) (omega arith)
+      ∙ steps_done count all (step rule v at) (subst (λ a. finished v a ≡ true) next e) (omega arith)
       ∙ sym next)
       (cases_Bool (finished v at))
 
   -- a step settles some choice, or leaves as many settled and a smaller block
-  step-moves : (at : Position) → (at.settled < (step rule v at).settled) ⊎ (((step rule v at).settled ≡ at.settled) × ((step rule v at).free < at.free))
-  step-moves at =
-      step-cases (λ a. (at.settled < a.settled) ⊎ ((a.settled ≡ at.settled) × (a.free < at.free))) at
+  step_moves : (at : Position) → (at.settled < (step rule v at).settled) ⊎ (((step rule v at).settled ≡ at.settled) × ((step rule v at).free < at.free))
+  step_moves at =
+      step_cases (λ a. (at.settled < a.settled) ⊎ ((a.settled ≡ at.settled) × (a.free < at.free))) at
       (λ _. inl (omega (arith, pow_pos at.free)))
       (λ some. inr (refl, omega arith))
       (λ _. inl (omega (arith, lead_settled at (worth_of v at.settled))))
 
   -- no step lowers what is settled
-  step-lasts : (at : Position) → at.settled ≤ (step rule v at).settled
-  step-lasts at = ⊎_elim (λ h. omega arith) (λ h. omega (arith, h.0)) (step-moves at)
+  step_lasts : (at : Position) → at.settled ≤ (step rule v at).settled
+  step_lasts at = ⊎_elim (λ h. omega arith) (λ h. omega (arith, h.0)) (step_moves at)
 
   -- nor do any number of steps
-  pub steps-last : (count : ℕ) (at : Position) → Placed v at → at.settled ≤ (steps rule v count at).settled
-  steps-last count at placed =
-      steps-keep (λ a. at.settled ≤ a.settled) (λ a _ _ h. omega (arith, step-lasts a)) count at placed (omega arith)
+  pub steps_last : (count : ℕ) (at : Position) → Placed v at → at.settled ≤ (steps rule v count at).settled
+  steps_last count at placed =
+      steps_keep (λ a. at.settled ≤ a.settled) (λ a _ _ h. omega (arith, step_lasts a)) count at placed (omega arith)
 
   -- as many steps as a block has free digits, and one, settle some choice
   pub steps-settle : (count : ℕ) (at : Position) → Placed v at → at.settled < choices v → at.free + 1 ≤ count → at.settled < (steps rule v count at).settled
@@ -178,9 +178,9 @@ module _ (rule : Answers) (v : View) where
       let after = step-placed at placed below in
       rw (goes_on count at (not-finished v at below))
       (⊎_elim
-      (λ (h : at.settled < (step rule v at).settled). omega (arith, steps-last count (step rule v at) after))
+      (λ (h : at.settled < (step rule v at).settled). omega (arith, steps_last count (step rule v at) after))
       (λ h. omega (arith, h.0, steps-settle count (step rule v at) after (omega (arith, h.0)) (omega (arith, h.1))))
-      (step-moves at))
+      (step_moves at))
 
   -- as many steps as the docket has packages settle some choice
   pub progress : (at : Position) → Placed v at → at.settled < choices v → at.settled < (steps rule v (length v.packages) at).settled
@@ -189,8 +189,8 @@ module _ (rule : Answers) (v : View) where
 
 module _ (v : View) (few : length v.packages ≤ 40) where
   -- a block has at most 40 free digits
-  pub free-small : (at : Position) → Placed v at → at.settled < choices v → at.free ≤ 40
-  free-small at placed below = omega (arith, (placed.block below).few)
+  pub free_small : (at : Position) → Placed v at → at.settled < choices v → at.free ≤ 40
+  free_small at placed below = omega (arith, (placed.block below).few)
 
   -- the zeros of a count of choices are fewer than 64
   zeros-few : (n : ℕ) → 1 ≤ n → n ≤ choices v → count_trailing_zeros 64 n < 64
@@ -205,7 +205,7 @@ module _ (rule : Answers) (v : View) (few : length v.packages ≤ 40) where
   -- a step leaves less
   pub step_less : (at : Position) → Placed v at → at.settled < choices v → left v (step rule v at) < left v at
   step_less at placed below =
-      step-cases rule v (λ a. left v a < left v at) at
+      step_cases rule v (λ a. left v a < left v at) at
       (λ _. settle-less v few at (at.settled + 2 ^ at.free) (omega (arith, pow_pos at.free)) (block_inside v at placed below))
       (λ some. omega arith)
       (λ _. rw (lead_settled at (worth_of v at.settled)) (settle-less v few at (at.settled + 1) (omega arith) (omega arith)))
@@ -216,4 +216,4 @@ module _ (rule : Answers) (v : View) (few : length v.packages ≤ 40) where
   steps-less (suc count) at some placed below =
       let first = step_less at placed below in
       rw (goes_on rule v count at (not-finished v at below))
-      (steps-keep rule v (λ a. left v a < left v at) (λ a p b h. omega (arith, step_less a p b)) count (step rule v at) (step-placed rule v at placed below) first)
+      (steps_keep rule v (λ a. left v a < left v at) (λ a p b h. omega (arith, step_less a p b)) count (step rule v at) (step-placed rule v at placed below) first)

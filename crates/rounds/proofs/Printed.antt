@@ -27,16 +27,16 @@ module _ {W X : Type 0} (took : W → List ℕ → W → Type 0) (line : X → L
   Lined i g = Writes took f (lines_of line (take i xs)) g
 
   -- no line at first
-  pub lined-none : Lined 0 f
-  lined-none plain = record { wrote = writes_in_calls_nil took f.writer; plain = plain }
+  pub lined_none : Lined 0 f
+  lined_none plain = record { wrote = writes_in_calls_nil took f.writer; plain = plain }
 
   -- one line more
-  pub lined-more : (i : ℕ) (d : X) (g h : Formatter W) → i < length xs → Lined i g → Writes took g (line (get_or xs i d)) h → Lined (i + 1) h
-  lined-more i d g h inside so_far next plain =
+  pub lined_more : (i : ℕ) (d : X) (g h : Formatter W) → i < length xs → Lined i g → Writes took g (line (get_or xs i d)) h → Lined (i + 1) h
+  lined_more i d g h inside so_far next plain =
       has_written_of_eq took f _ _ h
       (sym (lines_more line (take i xs) (get_or xs i d)) ∙ ap (lines_of line) (sym (take_more xs i d inside)))
       (writes_both took f (lines_of line (take i xs)) g (line (get_or xs i d)) h so_far next plain)
 
   -- all lines in the end
-  pub lined-all : (i : ℕ) (g : Formatter W) → length xs ≤ i → Lined i g → Writes took f (lines_of line xs) g
-  lined-all i g end so_far plain = has_written_of_eq took f _ _ g (ap (lines_of line) (take_all i xs end)) (so_far plain)
+  pub lined_all : (i : ℕ) (g : Formatter W) → length xs ≤ i → Lined i g → Writes took f (lines_of line xs) g
+  lined_all i g end so_far plain = has_written_of_eq took f _ _ g (ap (lines_of line) (take_all i xs end)) (so_far plain)

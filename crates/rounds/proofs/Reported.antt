@@ -20,20 +20,20 @@ Listed items choice i digits so_far = so_far ++ numbers_of (taken (drop i items)
 
 module _ (items : List PricedPackage) (choice i digits : ℕ) (so_far : List ℕ) (d : PricedPackage) (inside : i < length items) (now : Listed items choice i digits so_far) where
   -- what the digits take of the packages from here on, by the next digit
-  next-digit : taken (drop i items) digits ≡ cond (eqb (digits % 2) 1) (get_or items i d ∷ taken (drop (i + 1) items) (digits / 2)) (taken (drop (i + 1) items) (digits / 2))
-  next-digit = at_drop_more (λ ps. taken ps digits) items i d inside
+  next_digit : taken (drop i items) digits ≡ cond (eqb (digits % 2) 1) (get_or items i d ∷ taken (drop (i + 1) items) (digits / 2)) (taken (drop (i + 1) items) (digits / 2))
+  next_digit = at_drop_more (λ ps. taken ps digits) items i d inside
 
   -- a package that is taken is listed
-  pub listed-taken : digits % 2 ≡ 1 → Listed items choice (i + 1) (digits / 2) (so_far ++ (get_or items i d).number ∷ [])
-  listed-taken one =
+  pub listed_taken : digits % 2 ≡ 1 → Listed items choice (i + 1) (digits / 2) (so_far ++ (get_or items i d).number ∷ [])
+  listed_taken one =
       append_assoc so_far ((get_or items i d).number ∷ []) _
-      ∙ ap (λ ps. so_far ++ numbers_of ps) (sym (next-digit ∙ cond-true (eqb (digits % 2) 1) _ _ (eq-eqb (digits % 2) 1 one)))
+      ∙ ap (λ ps. so_far ++ numbers_of ps) (sym (next_digit ∙ cond-true (eqb (digits % 2) 1) _ _ (eq-eqb (digits % 2) 1 one)))
       ∙ now
 
   -- one that is not is passed over
-  pub listed-passed : (digits % 2 ≡ 1 → ⊥) → Listed items choice (i + 1) (digits / 2) so_far
-  listed-passed skip =
-      ap (λ ps. so_far ++ numbers_of ps) (sym (next-digit ∙ cond-false (eqb (digits % 2) 1) _ _ (ne_eqb (digits % 2) 1 skip))) ∙ now
+  pub listed_passed : (digits % 2 ≡ 1 → ⊥) → Listed items choice (i + 1) (digits / 2) so_far
+  listed_passed skip =
+      ap (λ ps. so_far ++ numbers_of ps) (sym (next_digit ∙ cond-false (eqb (digits % 2) 1) _ _ (ne_eqb (digits % 2) 1 skip))) ∙ now
 
 -- at the end all are listed
 pub listed_all : (items : List PricedPackage) (choice i digits : ℕ) (so_far : List ℕ) → length items ≤ i → Listed items choice i digits so_far

@@ -109,12 +109,12 @@ failed_fair (c ∷ cs) h = cond_both c.passed _ _ FairFailure (λ _. failed_fair
 
 module _ {R : Type 0} (k : Layout R) (es : List (Entry R)) (last : Mark) (content : List ℕ) where
   -- the refusals of a content: outside, not rising, a bad status, a bad record, a clash
-  checks-fair : AllFair (content_checks k es last content)
-  checks-fair = search rules
+  checks_fair : AllFair (content_checks k es last content)
+  checks_fair = search rules
 
   -- so what a content answers is fair
-  pub take-in-fair : Fair (take_in k es last content).answer
-  take-in-fair = by (first_failed (content_checks k es last content)) refl (failed_fair (content_checks k es last content) checks-fair)
+  pub take_in_fair : Fair (take_in k es last content).answer
+  take_in_fair = by (first_failed (content_checks k es last content)) refl (failed_fair (content_checks k es last content) checks_fair)
     where
       by : (o : Option Refusal) → first_failed (content_checks k es last content) ≡ o → FairFailure o → Fair (take_in k es last content).answer
       by None e h = rw e tt

@@ -11,7 +11,7 @@ use Rattle.sheets.specs.Laws.{Faithful}
 use Rattle.sheets.specs.Reading.{catch_up}
 use Rattle.sheets.specs.Writing.{sheet_of}
 use Rattle.sheets.proofs.Further.{FurtherIn, Further, further_same}
-use Rattle.sheets.proofs.Joins.{merged-long, merged_further, merged-ranged, merged-swap, further_accord, further_becomes}
+use Rattle.sheets.proofs.Joins.{merged-long, merged_further, merged-ranged, merged_swap, further_accord, further_becomes}
 use Rattle.sheets.proofs.KindLaws.{lawful-kind}
 use Rattle.sheets.proofs.SheetsBack.{Numbered, Accords, merged_entries, entries-merged, sheet_read}
 use Rattle.sheets.proofs.Steps.{same_ok}
@@ -70,7 +70,7 @@ module _ (all other : Entries) (sound : Sound all) (good : Sound other) where
   either_way accords =
       same_entries (merged_entries all other) (merged_entries other all) (λ k.
       entries-merged all other k
-      ∙ merged-swap (layout_of k) (lawful-kind k) (entries_of all k) (entries_of other k) (sound.numbered k ∙ sym (good.numbered k)) (sound.in_range k) (good.in_range k) (accords k)
+      ∙ merged_swap (layout_of k) (lawful-kind k) (entries_of all k) (entries_of other k) (sound.numbered k ∙ sym (good.numbered k)) (sound.in_range k) (good.in_range k) (accords k)
       ∙ sym (entries-merged other all k))
 
   -- what a round becomes is sound
@@ -81,8 +81,8 @@ module _ (all other : Entries) (sound : Sound all) (good : Sound other) where
   }
 
   -- and has come further than the round was
-  merged-beyond : Further all (merged_entries all other)
-  merged-beyond k = subst (FurtherIn (entries_of all k)) (sym (entries-merged all other k)) (merged_further (entries_of all k) (entries_of other k))
+  merged_beyond : Further all (merged_entries all other)
+  merged_beyond k = subst (FurtherIn (entries_of all k)) (sym (entries-merged all other k)) (merged_further (entries_of all k) (entries_of other k))
 
 -- what a round has that accepted another's sheet
 accepted_read : (all other mine : Entries) → Sound all → Sound other → catch_up all (sheet_of other) ≡ Ok mine → Accords all other × (mine ≡ merged_entries all other)
@@ -105,5 +105,5 @@ faithful all sound = record {
       let here = accepted_read all other mine sound good e in
       let is = here.1 ∙ either_way all other sound good here.0 in
       subst (λ (x : Entries). catch_up other (sheet_of x) ≡ Ok x) (sym is)
-      (further_read other (merged_entries other all) good.numbered (merged-sound other all good sound) (merged-beyond other all good sound));
+      (further_read other (merged_entries other all) good.numbered (merged-sound other all good sound) (merged_beyond other all good sound));
 }

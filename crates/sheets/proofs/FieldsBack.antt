@@ -57,8 +57,8 @@ ready-rises last tag n h = let before = h.before in let lower = h.lower in grind
 
 module _ {R : Type 0} (k : Layout R) (law : Lawful k) (n status : ℕ) (r : R) (fine : fault_of k r ≡ 0) where
   -- the record in a content is the one that was written
-  record-back : record_in k (content_of k n status r) ≡ r
-  record-back = law.reads_back r fine
+  record_back : record_in k (content_of k n status r) ≡ r
+  record_back = law.reads_back r fine
 
   module _ (front ms : List (Entry R)) (m : Entry R) (place : n ≡ length front + 1) where
     -- the number's entry
@@ -74,20 +74,20 @@ module _ {R : Type 0} (k : Layout R) (law : Lawful k) (n status : ℕ) (r : R) (
           has_entry = and_from (leb 1 n) (leb n (min k.count (length (front ++ m ∷ ms)))) (le-leb 1 n (omega arith)) (le-leb n (min k.count (length (front ++ m ∷ ms))) high);
           rising = ready-rises last k.tag n ready;
           status = known;
-          fine = ap (fault_of k) record-back ∙ fine;
-          accord = ap (λ (e : Entry R). agrees k e (record_in k (content_of k n status r))) entry-back ∙ ap (agrees k m) record-back ∙ same;
+          fine = ap (fault_of k) record_back ∙ fine;
+          accord = ap (λ (e : Entry R). agrees k e (record_in k (content_of k n status r))) entry-back ∙ ap (agrees k m) record_back ∙ same;
         }
 
     -- and is joined with it
     pub joined_back : content_joined k (front ++ m ∷ ms) (content_of k n status r) ≡ front ++ joined m (eqb status 2) r ∷ ms
     joined_back =
         ap (λ (e : Entry R). set (front ++ m ∷ ms) (n - 1) (joined e (eqb status 2) (record_in k (content_of k n status r)))) entry-back
-        ∙ ap (λ (x : R). set (front ++ m ∷ ms) (n - 1) (joined m (eqb status 2) x)) record-back
+        ∙ ap (λ (x : R). set (front ++ m ∷ ms) (n - 1) (joined m (eqb status 2) x)) record_back
         ∙ set_at front m ms (joined m (eqb status 2) r) (n - 1) (omega arith)
 
     -- only one that accords with it passes
     pub accord-back : (last : Mark) → Passed k (front ++ m ∷ ms) last (content_of k n status r) → agrees k m r ≡ true
     accord-back last ok =
-        sym (ap (agrees k m) record-back)
+        sym (ap (agrees k m) record_back)
         ∙ sym (ap (λ (e : Entry R). agrees k e (record_in k (content_of k n status r))) entry-back)
         ∙ ok.accord

@@ -116,27 +116,27 @@ merged-ranged k (m ∷ ms) (e ∷ es) mine theirs (suc i) = merged-ranged k ms e
 
 module _ {R : Type 0} (k : Layout R) (law : Lawful k) where
   -- records in range with the same bytes are the same
-  same-record : (r s : R) → fault_of k r ≡ 0 → fault_of k s ≡ 0 → bytes_eq (bytes_of k r) (bytes_of k s) ≡ true → r ≡ s
-  same-record r s fine good same = law.apart r s fine good ((bytes_eq-Decides (bytes_of k r) (bytes_of k s)).0 same)
+  same_record : (r s : R) → fault_of k r ≡ 0 → fault_of k s ≡ 0 → bytes_eq (bytes_of k r) (bytes_of k s) ≡ true → r ≡ s
+  same_record r s fine good same = law.apart r s fine good ((bytes_eq-Decides (bytes_of k r) (bytes_of k s)).0 same)
 
   -- so two entries that accord become the same, whichever is joined with the other
-  merged-either : (m e : Entry R) → held_fault k m ≡ 0 → held_fault k e ≡ 0 → accords k m e ≡ true → merged m e ≡ merged e m
-  merged-either Vacant Vacant mine theirs same = refl
-  merged-either Vacant (Open s) mine theirs same = refl
-  merged-either Vacant (Withdrawn s) mine theirs same = refl
-  merged-either (Open r) Vacant mine theirs same = refl
-  merged-either (Open r) (Open s) mine theirs same = ap Open (same-record r s mine theirs same)
-  merged-either (Open r) (Withdrawn s) mine theirs same = ap Withdrawn (same-record r s mine theirs same)
-  merged-either (Withdrawn r) Vacant mine theirs same = refl
-  merged-either (Withdrawn r) (Open s) mine theirs same = ap Withdrawn (same-record r s mine theirs same)
-  merged-either (Withdrawn r) (Withdrawn s) mine theirs same = ap Withdrawn (same-record r s mine theirs same)
+  merged_either : (m e : Entry R) → held_fault k m ≡ 0 → held_fault k e ≡ 0 → accords k m e ≡ true → merged m e ≡ merged e m
+  merged_either Vacant Vacant mine theirs same = refl
+  merged_either Vacant (Open s) mine theirs same = refl
+  merged_either Vacant (Withdrawn s) mine theirs same = refl
+  merged_either (Open r) Vacant mine theirs same = refl
+  merged_either (Open r) (Open s) mine theirs same = ap Open (same_record r s mine theirs same)
+  merged_either (Open r) (Withdrawn s) mine theirs same = ap Withdrawn (same_record r s mine theirs same)
+  merged_either (Withdrawn r) Vacant mine theirs same = refl
+  merged_either (Withdrawn r) (Open s) mine theirs same = ap Withdrawn (same_record r s mine theirs same)
+  merged_either (Withdrawn r) (Withdrawn s) mine theirs same = ap Withdrawn (same_record r s mine theirs same)
 
   -- and so do two registers
-  pub merged-swap : (ms es : List (Entry R)) → length ms ≡ length es → InRange k ms → InRange k es → Accord k ms es → merged_all ms es ≡ merged_all es ms
-  merged-swap [] [] long mine theirs same = refl
-  merged-swap [] (e ∷ es) long mine theirs same = absurd (omega arith)
-  merged-swap (m ∷ ms) [] long mine theirs same = absurd (omega arith)
-  merged-swap (m ∷ ms) (e ∷ es) long mine theirs same =
-      let here = merged-either m e (mine 0) (theirs 0) same.0 in
-      let rest = merged-swap ms es (omega arith) (λ i. mine (suc i)) (λ i. theirs (suc i)) same.1 in
+  pub merged_swap : (ms es : List (Entry R)) → length ms ≡ length es → InRange k ms → InRange k es → Accord k ms es → merged_all ms es ≡ merged_all es ms
+  merged_swap [] [] long mine theirs same = refl
+  merged_swap [] (e ∷ es) long mine theirs same = absurd (omega arith)
+  merged_swap (m ∷ ms) [] long mine theirs same = absurd (omega arith)
+  merged_swap (m ∷ ms) (e ∷ es) long mine theirs same =
+      let here = merged_either m e (mine 0) (theirs 0) same.0 in
+      let rest = merged_swap ms es (omega arith) (λ i. mine (suc i)) (λ i. theirs (suc i)) same.1 in
       cc

@@ -75,12 +75,12 @@ module _ {R : Type 0} (k : Layout R) (law : Lawful k) where
   length-entry n (Withdrawn r) ne = length-field n 2 r
 
   -- five bytes are set, and the record's follow
-  pub put-field : (n status : ℕ) (r : R) (at tag size : ℕ) (out before : List ℕ) → content_size k < 2 ^ 16
+  pub put_field : (n status : ℕ) (r : R) (at tag size : ℕ) (out before : List ℕ) → content_size k < 2 ^ 16
       → at + length (field_bytes k n status r) ≤ length before → tag ≡ k.tag → size ≡ content_size k → out ≡ bytes_of k r
       → Put at (at + 3 + size) (field_bytes k n status r) before
       (put_mid (at + 3 + 2) (at + 3 + size - (at + 3 + 2))
       (set (set (set (set (set before at tag) (at + 1) (size / 256)) (at + 2) (size % 256)) (at + 3) n) (at + 3 + 1) status) out)
-  put-field n status r at tag size out before short room t s o =
+  put_field n status r at tag size out before short room t s o =
       let b1 = set before at tag in
       let b2 = set b1 (at + 1) (size / 256) in
       let b3 = set b2 (at + 2) (size % 256) in
@@ -102,30 +102,30 @@ module _ {R : Type 0} (k : Layout R) (law : Lawful k) where
 
 module _ {R : Type 0} (k : Layout R) where
   -- the fields of two rows of entries, the second numbered on from the first
-  register-append : (n : ℕ) (es fs : List (Entry R)) → register_bytes k n (es ++ fs) ≡ register_bytes k n es ++ register_bytes k (n + length es) fs
-  register-append n [] fs = rw add-zero
-  register-append n (e ∷ es) fs =
+  register_append : (n : ℕ) (es fs : List (Entry R)) → register_bytes k n (es ++ fs) ≡ register_bytes k n es ++ register_bytes k (n + length es) fs
+  register_append n [] fs = rw add-zero
+  register_append n (e ∷ es) fs =
       let on : n + 1 + length es ≡ n + length (e ∷ es) = omega arith in
-      rw (register-append (n + 1) es fs, on, append_assoc)
+      rw (register_append (n + 1) es fs, on, append_assoc)
 
   module _ (es : List (Entry R)) (i : ℕ) (e : Entry R) (h : i < length es) (is : e ≡ get_or es i e) where
     -- one entry more is one field more
-    pub register-more : register_bytes k 1 (take (i + 1) es) ≡ register_bytes k 1 (take i es) ++ entry_bytes k (i + 1) e
-    register-more =
+    pub register_more : register_bytes k 1 (take (i + 1) es) ≡ register_bytes k 1 (take i es) ++ entry_bytes k (i + 1) e
+    register_more =
         let number : 1 + length (take i es) ≡ i + 1 = simp length-take (omega arith) in
-        rw (take_more es i e, ← is, register-append 1 (take i es) (e ∷ []), number, append-nil)
+        rw (take_more es i e, ← is, register_append 1 (take i es) (e ∷ []), number, append-nil)
 
     -- its field is written after those before it
-    pub put-entry : {at next end n : ℕ} {before between after : List ℕ} → n ≡ i + 1 → Put at next (register_bytes k 1 (take i es)) before between
+    pub put_entry : {at next end n : ℕ} {before between after : List ℕ} → n ≡ i + 1 → Put at next (register_bytes k 1 (take i es)) before between
         → Put next end (entry_bytes k n e) between after → Put at end (register_bytes k 1 (take (i + 1) es)) before after
-    put-entry number p q = rw register-more (put_both p (rw number at q))
+    put_entry number p q = rw register_more (put_both p (rw number at q))
 
     -- and has room where the whole register has
-    pub register-room : length (register_bytes k 1 (take i es)) + length (entry_bytes k (i + 1) e) ≤ length (register_bytes k 1 es)
-    register-room =
-        let front = ap length register-more in
+    pub register_room : length (register_bytes k 1 (take i es)) + length (entry_bytes k (i + 1) e) ≤ length (register_bytes k 1 es)
+    register_room =
+        let front = ap length register_more in
         let whole : register_bytes k 1 es ≡ register_bytes k 1 (take (i + 1) es) ++ register_bytes k (1 + length (take (i + 1) es)) (drop (i + 1) es)
-        = ap (register_bytes k 1) (sym (take-append-drop (i + 1) es)) ∙ register-append 1 (take (i + 1) es) (drop (i + 1) es) in
+        = ap (register_bytes k 1) (sym (take-append-drop (i + 1) es)) ∙ register_append 1 (take (i + 1) es) (drop (i + 1) es) in
         omega (arith, simp length-append at front, simp length-append at (ap length whole))
 
 -- the length of five rows of bytes

@@ -66,8 +66,8 @@ record Place (k : Kind) (es front ms : List (Entry (RecordOf k))) (all : Entries
 
 module _ (k : Kind) (e : Entry (RecordOf k)) (es front : List (Entry (RecordOf k))) (m : Entry (RecordOf k)) (ms : List (Entry (RecordOf k))) (all : Entries) (n : ℕ) (last : Mark) (here : Place k (e ∷ es) front (m ∷ ms) all n last) where
   -- one number on, after an entry is put in for this one
-  place-on : (new : Entry (RecordOf k)) (next : Mark) → Ready next (layout_of k).tag (n + 1) → Place k es (front ++ new ∷ []) ms (with_entries all k (front ++ new ∷ ms)) (n + 1) next
-  place-on new next ready =
+  place_on : (new : Entry (RecordOf k)) (next : Mark) → Ready next (layout_of k).tag (n + 1) → Place k es (front ++ new ∷ []) ms (with_entries all k (front ++ new ∷ ms)) (n + 1) next
+  place_on new next ready =
       let longer = length-append front (new ∷ []) in
       let at = here.at in
       let long = here.long in
@@ -82,19 +82,19 @@ module _ (k : Kind) (e : Entry (RecordOf k)) (es front : List (Entry (RecordOf k
       }
 
   -- what is put in there and after stands in the register as it was
-  left-on : (new : Entry (RecordOf k)) → with_entries (with_entries all k (front ++ new ∷ ms)) k ((front ++ new ∷ []) ++ merged_all ms es) ≡ with_entries all k (front ++ new ∷ merged_all ms es)
-  left-on new =
+  left_on : (new : Entry (RecordOf k)) → with_entries (with_entries all k (front ++ new ∷ ms)) k ((front ++ new ∷ []) ++ merged_all ms es) ≡ with_entries all k (front ++ new ∷ merged_all ms es)
+  left_on new =
       with_twice all k (front ++ new ∷ ms) ((front ++ new ∷ []) ++ merged_all ms es)
       ∙ ap (with_entries all k) (append_assoc front (new ∷ []) (merged_all ms es))
 
   -- a vacant number has no field
-  vacant-met : (rest : List ℕ)
+  vacant_met : (rest : List ℕ)
       → Met (read_on (with_entries all k (front ++ m ∷ ms)) last (register_bytes (layout_of k) (n + 1) es ++ rest)) (Accord (layout_of k) ms es) (layout_of k).tag (with_entries (with_entries all k (front ++ m ∷ ms)) k ((front ++ m ∷ []) ++ merged_all ms es)) rest
       → Met (read_on all last (register_bytes (layout_of k) (n + 1) es ++ rest)) ((◌≡◌ {A = Bool} true true) × Accord (layout_of k) ms es) (layout_of k).tag (with_entries all k (front ++ m ∷ merged_all ms es)) rest
-  vacant-met rest =
+  vacant_met rest =
       met_like _ _ (layout_of k).tag _ _ rest
       (ap (λ (x : Entries). read_on x last (register_bytes (layout_of k) (n + 1) es ++ rest)) (sym (with_own all k) ∙ ap (with_entries all k) here.is))
-      (left-on m) (λ a. (refl, a)) (λ a. a.1)
+      (left_on m) (λ a. (refl, a)) (λ a. a.1)
 
   -- the field of any other one
   module _ (status : ℕ) (known : within 1 2 status ≡ true) (r : RecordOf k) (fine : fault_of (layout_of k) r ≡ 0) where
@@ -136,7 +136,7 @@ module _ (k : Kind) (e : Entry (RecordOf k)) (es front : List (Entry (RecordOf k
         let bs = register_bytes (layout_of k) (n + 1) es ++ rest in
         let regroup = ap (read_on all last) (append_assoc (field_bytes (layout_of k) n status r) (register_bytes (layout_of k) (n + 1) es) rest) in
         ⊎_elim
-        (λ same. met_like _ _ (layout_of k).tag _ _ rest (regroup ∙ field-joins bs same) (left-on (joined m (eqb status 2) r)) (λ a. (same, a)) (λ a. a.1) met)
+        (λ same. met_like _ _ (layout_of k).tag _ _ rest (regroup ∙ field-joins bs same) (left_on (joined m (eqb status 2) r)) (λ a. (same, a)) (λ a. a.1) met)
         (λ differs. inr (record {
           apart = λ a. both_ways (agrees (layout_of k) m r) differs a.0;
           never = λ after f. both_ways (agrees (layout_of k) m r) differs (field-accords bs after (sym regroup ∙ f));
@@ -156,14 +156,14 @@ register_met k [] front (m ∷ ms) all n last here rest = absurd (omega (arith, 
 register_met k (e ∷ es) front [] all n last here rest = absurd (omega (arith, here.long))
 register_met k (Vacant ∷ es) front (m ∷ ms) all n last here rest =
     let later : Ready last (layout_of k).tag (n + 1) = record { lower = here.ready.lower; before = λ f. omega (arith, here.ready.before f) } in
-    vacant-met k Vacant es front m ms all n last here rest
-    (register_met k es (front ++ m ∷ []) ms _ (n + 1) last (place-on k Vacant es front m ms all n last here m last later) rest)
+    vacant_met k Vacant es front m ms all n last here rest
+    (register_met k es (front ++ m ∷ []) ms _ (n + 1) last (place_on k Vacant es front m ms all n last here m last later) rest)
 register_met k (Open r ∷ es) front (m ∷ ms) all n last here rest =
-    let next = place-on k (Open r) es front m ms all n last here (joined m false r) _ (after-field k (Open r) es front m ms all n last here 1 refl r (here.ranged 0)) in
+    let next = place_on k (Open r) es front m ms all n last here (joined m false r) _ (after-field k (Open r) es front m ms all n last here 1 refl r (here.ranged 0)) in
     field_met k (Open r) es front m ms all n last here 1 refl r (here.ranged 0) rest
     (register_met k es (front ++ joined m false r ∷ []) ms _ (n + 1) _ next rest)
 register_met k (Withdrawn r ∷ es) front (m ∷ ms) all n last here rest =
-    let next = place-on k (Withdrawn r) es front m ms all n last here (joined m true r) _ (after-field k (Withdrawn r) es front m ms all n last here 2 refl r (here.ranged 0)) in
+    let next = place_on k (Withdrawn r) es front m ms all n last here (joined m true r) _ (after-field k (Withdrawn r) es front m ms all n last here 2 refl r (here.ranged 0)) in
     field_met k (Withdrawn r) es front m ms all n last here 2 refl r (here.ranged 0) rest
     (register_met k es (front ++ joined m true r ∷ []) ms _ (n + 1) _ next rest)
 

@@ -8,7 +8,7 @@ use Rattle.offers.specs.Memory.{Entries, RecordOf, layout_of, entries_of, with_e
 use Rattle.sheets.specs.declared.fields.Mark.{Mark}
 use Rattle.sheets.specs.Fields.{Piece, split, joined, number_in, withdrawn_in, record_in}
 use Rattle.sheets.specs.Reading.{take_piece, past, and_then, catch_from}
-use Rattle.sheets.proofs.Checks.{Passed, Fair, accepted, passed-answer, passed-left, take-in-fair}
+use Rattle.sheets.proofs.Checks.{Passed, Fair, accepted, passed-answer, passed-left, take_in_fair}
 use Rattle.sheets.proofs.Headers.{never_both, split_fair}
 
 -- the entries of a kind with a content joined to that of its number
@@ -75,5 +75,5 @@ catch_fair zero all last bs = tt
 catch_fair (suc t) all last [] = tt
 catch_fair (suc t) all last (b ∷ bs) =
     fair_then (split (b ∷ bs) last.byte) _ (split_fair (b ∷ bs) last.byte) (λ p.
-    fair_then (take_piece all last p).answer _ (take-in-fair (layout_of p.kind) (entries_of all p.kind) last p.content) (λ number.
+    fair_then (take_piece all last p).answer _ (take_in_fair (layout_of p.kind) (entries_of all p.kind) last p.content) (λ number.
     catch_fair t (take_piece all last p).left (past last p number) p.rest))

@@ -6,16 +6,16 @@ use Rattle.clearing.specs.declared.dockets.Docket.{Docket}
 use Rattle.clearing.specs.declared.dockets.PricedPackage.{PricedPackage}
 use Rattle.clearing.specs.Lawful.{view}
 use Rattle.clearing.proofs.Fits.{PricedRanges, priced_ranges}
-use Rattle.clearing.proofs.Held.{no_package, package-held}
+use Rattle.clearing.proofs.Held.{no_package, package_held}
 use Rattle.clearing.proofs.Ranged.{ranged_docket}
-use Rattle.bounds.specs.Costs.{least_cost, least_first, counted_none, counted-all, counted-free, counted-fixed}
+use Rattle.bounds.specs.Costs.{least_cost, least_first, counted_none, counted_all, counted_free, counted-fixed}
 use Rattle.bounds.proofs.all_in.least_cost.Goals as goal
 use Rattle.bounds.proofs.all_in.least_cost.Goals.{then-i-block, else-i-block+then-digits-eq1, else-i-block+else-digits-eq1}
 
 -- at each turn, the package at the place is in range, and there are few
 turn : (d : Docket) (items : List PricedPackage) (i : ℕ) → items ≡ vec_items d.packages → i < length items → PricedRanges (get_or items i no_package) × (length items ≤ 40)
 turn d items i held inside =
-    (priced_ranges (get_or items i no_package) (package-held d i items held inside), omega (arith, ap length held, (ranged_docket d).few_packages))
+    (priced_ranges (get_or items i no_package) (package_held d i items held inside), omega (arith, ap length held, (ranged_docket d).few_packages))
 
 pub loop-i-init : goal.loop-i-init
 loop-i-init c = counted_none c.args.block c.deref-package-items.result.now
@@ -39,7 +39,7 @@ loop-i-preserved c =
     let here = turn c.args.docket.now items now.i c.deref-package-items.ensures.value inside in
     elim c.if-i-block.branch [
       | then-i-block w ↦
-          counted-free b items now.i _ now.digits no_package inside now.invariant here.0 _ w.if-i-block.true
+          counted_free b items now.i _ now.digits no_package inside now.invariant here.0 _ w.if-i-block.true
           (omega (arith, ints, clamps, w.cost-is, here.0.price_least, here.0.price, here.1))
       | else-i-block+then-digits-eq1 w ↦
           counted-fixed b items now.i _ now.digits no_package inside now.invariant here.0 _ w.if-i-block.false
@@ -59,7 +59,7 @@ returns c =
     let few = (ranged_docket d).few_packages in
     record {
       value =
-          counted-all b c.deref-package-items.result.now c.loop-i.i _ c.loop-i.digits c.loop-i-test.false c.loop-i.invariant
+          counted_all b c.deref-package-items.result.now c.loop-i.i _ c.loop-i.digits c.loop-i-test.false c.loop-i.invariant
           ∙ ap (least_cost b.free b.first) items.value
           ∙ least_first (view d) b c.requires;
       low = omega (arith, ints, items.len, few);

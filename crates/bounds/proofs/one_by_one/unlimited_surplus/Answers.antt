@@ -2,19 +2,19 @@
 use Rattle.std.proofs.Common.{pos, ◌-ℤ◌, sym, ap, ◌∙◌, subst, ap₂, arith}
 use Rattle.std.proofs.lemmas.Int.{ints}
 use Rattle.clearing.proofs.Ruled.{income-is, worth-stored}
-use Rattle.clearing.proofs.Sellings.{Sold, sold-in-all}
+use Rattle.clearing.proofs.Sellings.{Sold, sold_in_all}
 use Rattle.clearing.proofs.Takings.{taken-priced}
 use Rattle.clearing.proofs.Tallying.{Priced}
 use Rattle.bounds.proofs.one_by_one.unlimited_surplus.Goals as goal
 
 pub overflow_cast-result : goal.overflow_cast-result
 overflow_cast-result c =
-    let sold = subst Sold (sym c.sell-sales.ensures) (sold-in-all c.of-taken.result.supply c.args.docket.now) in
+    let sold = subst Sold (sym c.sell-sales.ensures) (sold_in_all c.of-taken.result.supply c.args.docket.now) in
     omega (arith, ints, sold.income)
 
 pub overflow_sub-result : goal.overflow_sub-result
 overflow_sub-result c =
-    let sold = subst Sold (sym c.sell-sales.ensures) (sold-in-all c.of-taken.result.supply c.args.docket.now) in
+    let sold = subst Sold (sym c.sell-sales.ensures) (sold_in_all c.of-taken.result.supply c.args.docket.now) in
     let cost = subst Priced (sym c.of-taken.ensures) (taken-priced c.args.docket.now c.args.choice) in
     omega (arith, ints, sold.income, cost.low, cost.high)
 
@@ -23,7 +23,7 @@ returns c =
     let d = c.args.docket.now in
     let t = c.of-taken.result in
     let s = c.sell-sales.result in
-    let sold = subst Sold (sym c.sell-sales.ensures) (sold-in-all t.supply d) in
+    let sold = subst Sold (sym c.sell-sales.ensures) (sold_in_all t.supply d) in
     let cost = subst Priced (sym c.of-taken.ensures) (taken-priced d c.args.choice) in
     record {
       value =

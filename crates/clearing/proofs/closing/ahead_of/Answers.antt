@@ -5,7 +5,7 @@ use Rattle.offers.specs.declared.records.Band.{Band}
 use Rattle.offers.specs.Tables.{band_layout}
 use Rattle.clearing.specs.Bands.{Numbered, ahead_of}
 use Rattle.clearing.proofs.Fits.{open_fits, band_ranges}
-use Rattle.clearing.proofs.Openings.{all_opened, ahead-open, ahead-shut, ahead_by_place}
+use Rattle.clearing.proofs.Openings.{all_opened, ahead_open, ahead_shut, ahead_by_place}
 use Rattle.clearing.proofs.closing.ahead_of.Goals as goal
 use Rattle.clearing.proofs.closing.ahead_of.Goals.{in-Open+then-comes_ahead, in-Open+else-comes_ahead, in_default}
 
@@ -28,17 +28,17 @@ loop-i-preserved c =
           let other = w.in-Open.other in
           let ranges = band_ranges other (open_fits band_layout es i other c.requires w.in-Open.is) in
           let first = ahead_by_place other c.args.band.now i c.args.at ∙ sym w.if-comes_ahead.ensures in
-          let more = ahead-open es i band inside other w.in-Open.is in
+          let more = ahead_open es i band inside other w.in-Open.is in
           let counted = cond-true _ other.quantity 0 first in
           (omega (arith, w.ahead-is, c.loop-i.invariant.0), omega (arith, w.ahead-is))
       | in-Open+else-comes_ahead w ↦
           let other = w.in-Open.other in
           let later = ahead_by_place other c.args.band.now i c.args.at ∙ sym w.if-comes_ahead.ensures in
-          let more = ahead-open es i band inside other w.in-Open.is in
+          let more = ahead_open es i band inside other w.in-Open.is in
           let counted = cond-false _ other.quantity 0 later in
           (omega (arith, w.ahead-is, c.loop-i.invariant.0), omega (arith, w.ahead-is))
       | in_default w ↦
-          let same = ahead-shut es i band inside w.in_default.not-Open in
+          let same = ahead_shut es i band inside w.in_default.not-Open in
           (w.ahead-is ∙ c.loop-i.invariant.0 ∙ sym same, omega (arith, w.ahead-is))
     ]
 

@@ -3,12 +3,12 @@ use Rattle.std.proofs.Common.{◌+◌, refl, ap, ◌∙◌, arith}
 use Rattle.std.proofs.lemmas.Bool.{and_from, le-leb}
 use Rattle.offers.specs.Tables.{band_layout}
 use Rattle.clearing.proofs.Fits.{open_fits, within-from}
-use Rattle.clearing.proofs.Copies.{none-copied, none_more, one_more, all-copied}
+use Rattle.clearing.proofs.Copies.{none_copied, none_more, one_more, all_copied}
 use Rattle.clearing.proofs.closing.copy_bands.Goals as goal
 use Rattle.clearing.proofs.closing.copy_bands.Goals.{in-Open, in_default}
 
 pub loop-i-init : goal.loop-i-init
-loop-i-init c = none-copied _ _ _ _ c.clear.new.self c.clear.ensures.items c.clear.ensures.len refl
+loop-i-init c = none_copied _ _ _ _ c.clear.new.self c.clear.ensures.items c.clear.ensures.len refl
 
 pub push_reserved-requires : goal.push_reserved-requires
 push_reserved-requires c = omega (arith, c.loop-i.invariant.few, c.loop-i.invariant.same)
@@ -35,5 +35,5 @@ returns c =
       capacity = c.loop-i.invariant.same ∙ c.clear.ensures.capacity;
       len = omega (arith, c.loop-i.invariant.few);
       fit = c.loop-i.invariant.fit;
-      items = all-copied _ _ c.args.entries.now _ c.loop-i.into c.loop-i.i (omega arith) c.loop-i.invariant;
+      items = all_copied _ _ c.args.entries.now _ c.loop-i.into c.loop-i.i (omega arith) c.loop-i.invariant;
     }

@@ -3,12 +3,12 @@ use Rattle.std.proofs.Common.{sym, refl, ◌∙◌, arith}
 use Rattle.std.proofs.lemmas.List.{get_or_read}
 use Rattle.offers.specs.declared.registers.Entry.TheVariants.{Vacant}
 use Rattle.clearing.proofs.Fits.{open_fits}
-use Rattle.clearing.proofs.Copies.{none-copied, none_more, one_more, all-copied}
+use Rattle.clearing.proofs.Copies.{none_copied, none_more, one_more, all_copied}
 use Rattle.clearing.proofs.closing.copy_open.Goals as goal
 use Rattle.clearing.proofs.closing.copy_open.Goals.{in-Open, in_default}
 
 pub loop-entry-init : goal.loop-entry-init
-loop-entry-init g c = none-copied _ _ _ _ c.clear.new.self c.clear.ensures.items c.clear.ensures.len refl
+loop-entry-init g c = none_copied _ _ _ _ c.clear.new.self c.clear.ensures.items c.clear.ensures.len refl
 
 pub push_reserved-requires : goal.push_reserved-requires
 push_reserved-requires g c = omega (arith, c.loop-entry.invariant.few, c.loop-entry.invariant.same)
@@ -34,5 +34,5 @@ returns g c =
       capacity = c.loop-entry.invariant.same ∙ c.clear.ensures.capacity;
       len = omega (arith, c.loop-entry.invariant.few);
       fit = c.loop-entry.invariant.fit;
-      items = all-copied _ _ c.args.entries.now _ c.loop-entry.into c.loop-entry.entry-index c.loop-entry-test.false c.loop-entry.invariant;
+      items = all_copied _ _ c.args.entries.now _ c.loop-entry.into c.loop-entry.entry-index c.loop-entry-test.false c.loop-entry.invariant;
     }

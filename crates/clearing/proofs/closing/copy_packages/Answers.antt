@@ -3,13 +3,13 @@ use Rattle.std.proofs.Common.{◌≡◌, ◌+◌, ◌-◌, true, get_or, pos, sy
 use Rattle.std.proofs.lemmas.Bool.{and_from}
 use Rattle.offers.specs.Tables.{package_layout}
 use Rattle.clearing.specs.Ranges.{price_fits}
-use Rattle.clearing.proofs.Fits.{open_fits, within-from, each-getD, price-stored}
-use Rattle.clearing.proofs.Copies.{none-copied, none_more, one_more, all-copied}
+use Rattle.clearing.proofs.Fits.{open_fits, within-from, each_getD, price-stored}
+use Rattle.clearing.proofs.Copies.{none_copied, none_more, one_more, all_copied}
 use Rattle.clearing.proofs.closing.copy_packages.Goals as goal
 use Rattle.clearing.proofs.closing.copy_packages.Goals.{in-Open, in_default}
 
 pub loop-i-init : goal.loop-i-init
-loop-i-init c = none-copied _ _ _ _ c.clear.new.self c.clear.ensures.items c.clear.ensures.len refl
+loop-i-init c = none_copied _ _ _ _ c.clear.new.self c.clear.ensures.items c.clear.ensures.len refl
 
 pub push_reserved-requires : goal.push_reserved-requires
 push_reserved-requires c = omega (arith, c.loop-i.invariant.few, c.loop-i.invariant.same)
@@ -22,7 +22,7 @@ loop-i-preserved c =
     elim c.match-entry.branch [
       | in-Open w ↦
           let r = w.in-Open.«record» in
-          let fit = each-getD price_fits c.args.prices.now i (pos 0) (omega arith) c.requires.prices_fit in
+          let fit = each_getD price_fits c.args.prices.now i (pos 0) (omega arith) c.requires.prices_fit in
           let stored = price-stored price fit in
           let past : i ≡ i + 1 - 1 = omega arith in
           rw w.into-is (one_more _ _ es _ c.loop-i.into i (omega arith) c.loop-i.invariant w.push_reserved.new.self r
@@ -40,5 +40,5 @@ returns c =
       capacity = c.loop-i.invariant.same ∙ c.clear.ensures.capacity;
       len = omega (arith, c.loop-i.invariant.few);
       fit = c.loop-i.invariant.fit;
-      items = all-copied _ _ c.args.entries.now _ c.loop-i.into c.loop-i.i (omega arith) c.loop-i.invariant;
+      items = all_copied _ _ c.args.entries.now _ c.loop-i.into c.loop-i.i (omega arith) c.loop-i.invariant;
     }

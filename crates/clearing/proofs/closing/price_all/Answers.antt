@@ -2,7 +2,7 @@
 use Rattle.std.proofs.Common.{set, Err, sym, refl, ap, ◌∙◌, subst, arith}
 use Rattle.pricing.specs.Prices.{Bounded}
 use Rattle.clearing.proofs.Fits.{price-from, price-stored}
-use Rattle.clearing.proofs.Pricings.{none-priced, one-priced, all_priced, refused_at}
+use Rattle.clearing.proofs.Pricings.{none_priced, one_priced, all_priced, refused_at}
 use Rattle.clearing.proofs.closing.price_all.Goals as goal
 use Rattle.clearing.proofs.closing.price_all.Goals.{in-Open+in-Ok, in_default}
 
@@ -19,11 +19,11 @@ loop-i-preserved g c =
           let answer = w.in-Ok.ensures.answer in
           let between = subst Bounded (sym answer) (g.met.P.PriceRule.bounded c.loop-i.rule w.in-Open.package) in
           let fits = price-from w.in-Ok.price between.0 between.1 in
-          one-priced _ _ es i c.loop-i.prices inv w.in-Open.package w.in-Ok.price _ _ (omega arith) w.in-Open.is answer fits
+          one_priced _ _ es i c.loop-i.prices inv w.in-Open.package w.in-Ok.price _ _ (omega arith) w.in-Open.is answer fits
           (w.prices-is ∙ ap (set c.loop-i.prices i) (price-stored w.in-Ok.price fits))
           (ap g.P.PriceRule.meaning w.rule-is ∙ w.price.ensures.same)
       | in_default w ↦
-          none-priced _ _ es i c.loop-i.prices inv _ _ w.in_default.not-Open w.prices-is (ap g.P.PriceRule.meaning w.rule-is)
+          none_priced _ _ es i c.loop-i.prices inv _ _ w.in_default.not-Open w.prices-is (ap g.P.PriceRule.meaning w.rule-is)
     ]
 
 pub returns : goal.returns

@@ -3,7 +3,7 @@ use Rattle.std.proofs.Common.{arith}
 use Rattle.std.proofs.ByRecursion.{All-more}
 use Rattle.std.proofs.lemmas.Bool.{both_ways}
 use Rattle.clearing.proofs.Held.{no_pair, pair_held}
-use Rattle.clearing.proofs.Tested.{one-fails, all_tested}
+use Rattle.clearing.proofs.Tested.{one_fails, all_tested}
 use Rattle.clearing.proofs.lawful.pairs_kept.Goals as goal
 use Rattle.clearing.proofs.lawful.pairs_kept.Goals.{else-taken-pair-via-then-taken-pair+else-not-within-pair, else-taken-pair-via-else-taken-pair}
 
@@ -28,7 +28,7 @@ loop-pair-preserved c =
 
 pub returns-then-not-within-pair : goal.returns-then-not-within-pair
 returns-then-not-within-pair c =
-    one-fails _ c.deref-pair-items.result.now _ c.deref-pair-items.ensures.value c.loop-pair.pair-index no_pair c.loop-pair-test.true
+    one_fails _ c.deref-pair-items.result.now _ c.deref-pair-items.ensures.value c.loop-pair.pair-index no_pair c.loop-pair-test.true
     (λ kept. both_ways _ c.if-not-within-pair.true (kept c.if-taken-pair.true))
 
 pub returns : goal.returns

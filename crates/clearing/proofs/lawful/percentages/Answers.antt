@@ -4,8 +4,8 @@ use Rattle.std.proofs.lemmas.List.{take_all, take_more}
 use Rattle.clearing.specs.Lawful.{percentage}
 use Rattle.clearing.specs.Ranges.{each}
 use Rattle.clearing.specs.Tallies.{row}
-use Rattle.clearing.proofs.Held.{no_limit, limit-ranged}
-use Rattle.clearing.proofs.Percentages.{percentages-same, percentages-set, percentages_most}
+use Rattle.clearing.proofs.Held.{no_limit, limit_ranged}
+use Rattle.clearing.proofs.Percentages.{percentages_same, percentages_set, percentages_most}
 use Rattle.clearing.proofs.lawful.percentages.Goals as goal
 use Rattle.clearing.proofs.lawful.percentages.Goals.{then-limit-eq-PERCENTAGE, else-limit-eq-PERCENTAGE}
 
@@ -14,17 +14,17 @@ loop-limit-init c = refl
 
 pub overflow_sub-zone : goal.overflow_sub-zone
 overflow_sub-zone c =
-    let ranges = limit-ranged c.args.docket.now c.loop-limit.limit-index c.deref-limit-items.result.now c.deref-limit-items.ensures.value c.loop-limit-test.true in
+    let ranges = limit_ranged c.args.docket.now c.loop-limit.limit-index c.deref-limit-items.result.now c.deref-limit-items.ensures.value c.loop-limit-test.true in
     omega arith
 
 pub bounds-least-zone : goal.bounds-least-zone
 bounds-least-zone c =
-    let ranges = limit-ranged c.args.docket.now c.loop-limit.limit-index c.deref-limit-items.result.now c.deref-limit-items.ensures.value c.loop-limit-test.true in
+    let ranges = limit_ranged c.args.docket.now c.loop-limit.limit-index c.deref-limit-items.result.now c.deref-limit-items.ensures.value c.loop-limit-test.true in
     omega (arith, ranges.percentage_zone c.if-limit-eq-PERCENTAGE.true)
 
 pub bounds-least-zone-then-limit-eq-PERCENTAGE : goal.bounds-least-zone-then-limit-eq-PERCENTAGE
 bounds-least-zone-then-limit-eq-PERCENTAGE c =
-    let ranges = limit-ranged c.args.docket.now c.loop-limit.limit-index c.deref-limit-items.result.now c.deref-limit-items.ensures.value c.loop-limit-test.true in
+    let ranges = limit_ranged c.args.docket.now c.loop-limit.limit-index c.deref-limit-items.result.now c.deref-limit-items.ensures.value c.loop-limit-test.true in
     omega (arith, ranges.percentage_zone c.if-limit-eq-PERCENTAGE.true)
 
 pub loop-limit-preserved : goal.loop-limit-preserved
@@ -36,14 +36,14 @@ loop-limit-preserved c =
     let more = ap (λ ls. row (percentage ls) 1 4) (sym (take_more ls i no_limit inside)) in
     elim c.if-limit-eq-PERCENTAGE.branch [
       | then-limit-eq-PERCENTAGE w ↦
-          let ranges = limit-ranged c.args.docket.now i ls c.deref-limit-items.ensures.value inside in
+          let ranges = limit_ranged c.args.docket.now i ls c.deref-limit-items.ensures.value inside in
           let is = w.if-limit-eq-PERCENTAGE.true in
           w.least-is
           ∙ ap₂ (λ xs n. set xs (l.zone - 1) n) c.loop-limit.invariant (w.min.ensures ∙ ap (λ xs. min (get_or xs (l.zone - 1) 0) l.amount) c.loop-limit.invariant)
-          ∙ percentages-set (take i ls) l is ranges.zone_least (ranges.percentage_zone is)
+          ∙ percentages_set (take i ls) l is ranges.zone_least (ranges.percentage_zone is)
           ∙ more
       | else-limit-eq-PERCENTAGE w ↦
-          w.least-is ∙ c.loop-limit.invariant ∙ percentages-same (take i ls) l w.if-limit-eq-PERCENTAGE.false ∙ more
+          w.least-is ∙ c.loop-limit.invariant ∙ percentages_same (take i ls) l w.if-limit-eq-PERCENTAGE.false ∙ more
     ]
 
 pub returns : goal.returns

@@ -9,28 +9,28 @@ use Rattle.clearing.specs.Judging.{worth_of}
 use Rattle.clearing.specs.Lawful.{view, Lawful, Worth, sold}
 use Rattle.clearing.proofs.Tallying.{Bounded, Priced}
 use Rattle.clearing.proofs.Takings.{taken-bounded, taken-priced}
-use Rattle.clearing.proofs.Sellings.{Sold, sold-in-all}
+use Rattle.clearing.proofs.Sellings.{Sold, sold_in_all}
 use Rattle.clearing.proofs.Filling.{best-filled, filled_within}
 use Rattle.clearing.proofs.Ranged.{ranged_docket}
 use Rattle.clearing.proofs.Judged.{worth_tells, worth-once}
-use Rattle.clearing.proofs.Ruled.{Ruled, lawful-from, ruled-from, income-is, worth-stored}
+use Rattle.clearing.proofs.Ruled.{Ruled, lawful-from, ruled_from, income-is, worth-stored}
 use Rattle.clearing.proofs.lawful.worth.Goals as goal
 use Rattle.clearing.proofs.lawful.worth.Goals.{else-pairs_kept-via-then-pairs_kept+then-exclusions_kept+then-zones_kept+else-dates_kept, else-pairs_kept-via-then-pairs_kept+then-exclusions_kept+else-zones_kept, else-pairs_kept-via-then-pairs_kept+else-exclusions_kept, else-pairs_kept-via-else-pairs_kept}
 
 pub dates_kept-requires : goal.dates_kept-requires
 dates_kept-requires c =
     let sums = subst (Bounded 400000000) (sym c.of-taken.ensures) (taken-bounded c.args.docket.now c.args.choice) in
-    let sold = subst Sold (sym c.sell-sales.ensures) (sold-in-all c.of-taken.result.supply c.args.docket.now) in
+    let sold = subst Sold (sym c.sell-sales.ensures) (sold_in_all c.of-taken.result.supply c.args.docket.now) in
     record { before = sums.before; after = sums.after; sold = sold.sold }
 
 pub overflow_cast-result : goal.overflow_cast-result
 overflow_cast-result c =
-    let sold = subst Sold (sym c.sell-sales.ensures) (sold-in-all c.of-taken.result.supply c.args.docket.now) in
+    let sold = subst Sold (sym c.sell-sales.ensures) (sold_in_all c.of-taken.result.supply c.args.docket.now) in
     omega (arith, ints, sold.income)
 
 pub overflow_sub-result : goal.overflow_sub-result
 overflow_sub-result c =
-    let sold = subst Sold (sym c.sell-sales.ensures) (sold-in-all c.of-taken.result.supply c.args.docket.now) in
+    let sold = subst Sold (sym c.sell-sales.ensures) (sold_in_all c.of-taken.result.supply c.args.docket.now) in
     let cost = subst Priced (sym c.of-taken.ensures) (taken-priced c.args.docket.now c.args.choice) in
     omega (arith, ints, sold.income, cost.low, cost.high)
 
@@ -44,7 +44,7 @@ returns-then-dates_kept c =
     let choice = c.args.choice in
     let t = c.of-taken.result in
     let s = c.sell-sales.result in
-    let sold = subst Sold (sym c.sell-sales.ensures) (sold-in-all t.supply d) in
+    let sold = subst Sold (sym c.sell-sales.ensures) (sold_in_all t.supply d) in
     let cost = subst Priced (sym c.of-taken.ensures) (taken-priced d choice) in
     let rules : Ruled (view d) t s = record {
       pairs = c.if-pairs_kept.ensures.0 refl;
@@ -60,15 +60,15 @@ returns-then-dates_kept c =
     record {
       value = worth-once (view d) choice (Some _) (worth_of (view d) choice) worth (worth_tells (view d) (ranged_docket d) choice);
       worth = worth;
-      best_filled = best_filled (view d) choice (in_order d) d.bands_fit;
+      best_filled = best-filled (view d) choice (in_order d) d.bands_fit;
     }
 
 pub returns-else-pairs_kept : goal.returns-else-pairs_kept
 returns-else-pairs_kept c =
     let d = c.args.docket.now in
     let choice = c.args.choice in
-    let best = best_filled (view d) choice (in_order d) d.bands_fit in
-    let rules = λ (sales : List ℕ) (lawful : Lawful (view d) choice sales). ruled-from d choice c.of-taken.result c.sell-sales.result c.of-taken.ensures c.sell-sales.ensures (best.lawful sales lawful) in
+    let best = best-filled (view d) choice (in_order d) d.bands_fit in
+    let rules = λ (sales : List ℕ) (lawful : Lawful (view d) choice sales). ruled_from d choice c.of-taken.result c.sell-sales.result c.of-taken.ensures c.sell-sales.ensures (best.lawful sales lawful) in
     let worth : Worth (view d) choice None = λ sales lawful.
     elim c.else-pairs_kept.branch [
       | else-pairs_kept-via-then-pairs_kept+then-exclusions_kept+then-zones_kept+else-dates_kept w ↦

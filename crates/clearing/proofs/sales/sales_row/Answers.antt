@@ -4,22 +4,22 @@ use Rattle.std.proofs.lemmas.List.{take_all}
 use Rattle.clearing.specs.Bands.{rising}
 use Rattle.clearing.specs.Sales.{sale_of}
 use Rattle.clearing.specs.Tallies.{row}
-use Rattle.clearing.proofs.Held.{no_band, band-held, band-ranged}
+use Rattle.clearing.proofs.Held.{no_band, band_held, band_ranged}
 use Rattle.clearing.proofs.Served.{served_more}
 use Rattle.clearing.proofs.sales.sales_row.Goals as goal
 
 pub sale-requires : goal.sale-requires
 sale-requires c =
-    band-held c.args.docket.now c.loop-band.band-index _ c.deref-band-items.ensures.value c.loop-band-test.true
+    band_held c.args.docket.now c.loop-band.band-index _ c.deref-band-items.ensures.value c.loop-band-test.true
 
 pub overflow_sub-row : goal.overflow_sub-row
 overflow_sub-row c =
-    let ranges = band-ranged c.args.docket.now c.loop-band.band-index c.deref-band-items.result.now c.deref-band-items.ensures.value c.loop-band-test.true in
+    let ranges = band_ranged c.args.docket.now c.loop-band.band-index c.deref-band-items.result.now c.deref-band-items.ensures.value c.loop-band-test.true in
     omega arith
 
 pub bounds-row-band : goal.bounds-row-band
 bounds-row-band c =
-    let ranges = band-ranged c.args.docket.now c.loop-band.band-index c.deref-band-items.result.now c.deref-band-items.ensures.value c.loop-band-test.true in
+    let ranges = band_ranged c.args.docket.now c.loop-band.band-index c.deref-band-items.result.now c.deref-band-items.ensures.value c.loop-band-test.true in
     omega arith
 
 pub loop-band-preserved : goal.loop-band-preserved
@@ -28,7 +28,7 @@ loop-band-preserved c =
     let i = c.loop-band.band-index in
     let held = c.deref-band-items.ensures.value in
     let inside = c.loop-band-test.true in
-    let ranges = band-ranged c.args.docket.now i bs held inside in
+    let ranges = band_ranged c.args.docket.now i bs held inside in
     ap₂ (λ xs n. set xs ((get_or bs i no_band).number - 1) n) c.loop-band.invariant c.sale.ensures
     ∙ served_more c.args.supply.now bs i no_band inside (ap rising held ∙ c.args.docket.now.bands_rise) ranges.number_least
 

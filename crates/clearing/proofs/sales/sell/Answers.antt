@@ -2,7 +2,7 @@
 use Rattle.std.proofs.Common.{refl, ap, ◌∙◌, arith}
 use Rattle.std.proofs.lemmas.List.{take_all}
 use Rattle.clearing.specs.Sales.{sales_of}
-use Rattle.clearing.proofs.Held.{band-held}
+use Rattle.clearing.proofs.Held.{band_held}
 use Rattle.clearing.proofs.Sellings.{turn}
 use Rattle.clearing.proofs.sales.sell.Goals as goal
 
@@ -11,7 +11,7 @@ loop-band-init c = refl
 
 pub sale-sold-requires : goal.sale-sold-requires
 sale-sold-requires c =
-    band-held c.args.docket.now c.loop-band.band-index _ c.deref-band-items.ensures.value c.loop-band-test.true
+    band_held c.args.docket.now c.loop-band.band-index _ c.deref-band-items.ensures.value c.loop-band-test.true
 
 pub overflow_sub-sales : goal.overflow_sub-sales
 overflow_sub-sales c =

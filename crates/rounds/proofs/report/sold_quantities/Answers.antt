@@ -5,19 +5,19 @@ use Rattle.clearing.specs.Bands.{rising}
 use Rattle.clearing.specs.Lawful.{view}
 use Rattle.clearing.specs.Sales.{filled, sale_of}
 use Rattle.clearing.specs.Tallies.{row}
-use Rattle.clearing.proofs.Held.{no_band, band-ranged}
+use Rattle.clearing.proofs.Held.{no_band, band_ranged}
 use Rattle.rounds.specs.Clearing.{supplies, sold_line}
 use Rattle.rounds.proofs.Reported.{sale_at}
 use Rattle.rounds.proofs.report.sold_quantities.Goals as goal
 
 pub overflow_sub-band : goal.overflow_sub-band
 overflow_sub-band c =
-    let ranges = band-ranged c.args.docket.now c.loop-band.band-index c.deref-band-items.result.now c.deref-band-items.ensures.value c.loop-band-test.true in
+    let ranges = band_ranged c.args.docket.now c.loop-band.band-index c.deref-band-items.result.now c.deref-band-items.ensures.value c.loop-band-test.true in
     omega arith
 
 pub bounds-row-band : goal.bounds-row-band
 bounds-row-band c =
-    let ranges = band-ranged c.args.docket.now c.loop-band.band-index c.deref-band-items.result.now c.deref-band-items.ensures.value c.loop-band-test.true in
+    let ranges = band_ranged c.args.docket.now c.loop-band.band-index c.deref-band-items.result.now c.deref-band-items.ensures.value c.loop-band-test.true in
     omega arith
 
 pub loop-band-preserved : goal.loop-band-preserved
@@ -27,7 +27,7 @@ loop-band-preserved c =
     let i = c.loop-band.band-index in
     let amounts = supplies (view d) c.args.choice in
     let b = get_or items i no_band in
-    let ranges = band-ranged d i items c.deref-band-items.ensures.value c.loop-band-test.true in
+    let ranges = band_ranged d i items c.deref-band-items.ensures.value c.loop-band-test.true in
     let rows : c.sales_row-row.result ≡ row (sale_of items amounts) 1 64 =
     c.sales_row-row.ensures ∙ ap₂ (λ bs xs. row (sale_of bs xs) 1 64) (sym c.deref-band-items.ensures.value) (ap (λ t. t.supply) c.of-taken.ensures) in
     let rise = subst (λ bs. rising bs ≡ true) (sym c.deref-band-items.ensures.value) d.bands_rise in

@@ -2,7 +2,7 @@
 use Rattle.std.proofs.Common.{◌≡◌, ℕ, ◌+◌, ◌/◌, List, [], ◌∷◌, ◌++◌, map, get_or, vec_items, sym, refl, ap, ◌∙◌, subst, rules}
 use Rattle.clearing.specs.Choices.{taken}
 use Rattle.clearing.proofs.Held.{no_package}
-use Rattle.rounds.proofs.Reported.{Listed, listed-taken, listed-passed, listed_all}
+use Rattle.rounds.proofs.Reported.{Listed, listed_taken, listed_passed, listed_all}
 use Rattle.rounds.proofs.report.taken_numbers.Goals as goal
 use Rattle.rounds.proofs.report.taken_numbers.Goals.{then-digits-eq1+in_ok-push, else-digits-eq1}
 
@@ -19,9 +19,9 @@ loop-package-preserved c =
     elim c.if-digits-eq1.branch [
       | then-digits-eq1+in_ok-push w ↦
           let pushed : vec_items c.if-digits-eq1.numbers ≡ so_far ++ (get_or items i no_package).number ∷ [] = search rules in
-          subst after (sym pushed) (listed-taken items c.args.choice i digits so_far no_package c.loop-package-test.true c.loop-package.invariant w.if-digits-eq1.true)
+          subst after (sym pushed) (listed_taken items c.args.choice i digits so_far no_package c.loop-package-test.true c.loop-package.invariant w.if-digits-eq1.true)
       | else-digits-eq1 w ↦
-          subst after (sym (ap vec_items w.numbers-is)) (listed-passed items c.args.choice i digits so_far no_package c.loop-package-test.true c.loop-package.invariant w.if-digits-eq1.false)
+          subst after (sym (ap vec_items w.numbers-is)) (listed_passed items c.args.choice i digits so_far no_package c.loop-package-test.true c.loop-package.invariant w.if-digits-eq1.false)
     ]
 
 pub returns : goal.returns

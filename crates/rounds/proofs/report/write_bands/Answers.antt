@@ -2,7 +2,7 @@
 use Rattle.std.proofs.Common.{refl}
 use Rattle.rounds.specs.declared.report.Sold.{Sold}
 use Rattle.rounds.specs.Text.{band_line}
-use Rattle.rounds.proofs.Printed.{lined-none, lined-more, lined-all}
+use Rattle.rounds.proofs.Printed.{lined_none, lined_more, lined_all}
 use Rattle.rounds.proofs.report.write_bands.Goals as goal
 
 -- what stands past the end of the list
@@ -10,14 +10,14 @@ abbrev no_sold : Sold
 no_sold = record { band = 0; quantity = 0 }
 
 pub loop-sold-init : goal.loop-sold-init
-loop-sold-init g c = lined-none g.W.Write.write_str_gives band_line c.args.bands.now c.args.f.now
+loop-sold-init g c = lined_none g.W.Write.write_str_gives band_line c.args.bands.now c.args.f.now
 
 pub loop-sold-preserved : goal.loop-sold-preserved
 loop-sold-preserved g c =
-    lined-more g.W.Write.write_str_gives band_line c.args.bands.now c.args.f.now c.loop-sold.sold-index no_sold c.loop-sold.f c.writeln.new.self
+    lined_more g.W.Write.write_str_gives band_line c.args.bands.now c.args.f.now c.loop-sold.sold-index no_sold c.loop-sold.f c.writeln.new.self
     c.loop-sold-test.true c.loop-sold.invariant (λ plain. c.in_ok-writeln.ensures.shows plain refl)
 
 pub returns : goal.returns
 returns g c plain ok =
-    lined-all g.W.Write.write_str_gives band_line c.args.bands.now c.args.f.now c.loop-sold.sold-index c.loop-sold.f
+    lined_all g.W.Write.write_str_gives band_line c.args.bands.now c.args.f.now c.loop-sold.sold-index c.loop-sold.f
     c.loop-sold-test.false c.loop-sold.invariant plain

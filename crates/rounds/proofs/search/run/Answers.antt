@@ -8,7 +8,7 @@ use Rattle.clearing.proofs.Judged.{worth_tells}
 use Rattle.bounds.specs.Blocks.{Answers, SoundRule}
 use Rattle.rounds.specs.declared.positions.Position.{Position}
 use Rattle.rounds.specs.Search.{Placed, Leads, finished, step, steps}
-use Rattle.rounds.proofs.Placings.{block-smaller, unfinished, steps-placed, steps-more, steps-done, steps-settle}
+use Rattle.rounds.proofs.Placings.{block-smaller, unfinished, steps-placed, steps_more, steps_done, steps-settle}
 use Rattle.rounds.proofs.Leadings.{steps-leads}
 use Rattle.rounds.proofs.search.run.Goals as goal
 
@@ -30,7 +30,7 @@ loop-preserved g c =
       c.step-at.ensures.value
           ∙ ap (λ r. step r v c.loop.at) c.loop.invariant.1
           ∙ ap (step rule v) c.loop.invariant.0
-          ∙ sym (steps-more rule v c.loop.counter c.args.from (subst (λ a. finished v a ≡ false) c.loop.invariant.0 left))
+          ∙ sym (steps_more rule v c.loop.counter c.args.from (subst (λ a. finished v a ≡ false) c.loop.invariant.0 left))
           ∙ ap (λ n. steps rule v n c.args.from) (sym (add-one c.loop.counter)),
       c.step-at.ensures.same_rule ∙ c.loop.invariant.1,
     )
@@ -65,6 +65,6 @@ returns-then-at-all g c =
     let v = view c.args.docket.now in
     let rule = g.B.BoundingRule.answers c.args.rule.now in
     let done : finished v c.loop.at ≡ true = eq-eqb _ _ (c.if-at-all.true ∙ c.choices-all.ensures.value) in
-    let value = c.loop.invariant.0 ∙ sym (steps-done rule v c.loop.counter c.args.steps c.args.from (subst (λ a. finished v a ≡ true) c.loop.invariant.0 done) (omega arith)) in
+    let value = c.loop.invariant.0 ∙ sym (steps_done rule v c.loop.counter c.args.steps c.args.from (subst (λ a. finished v a ≡ true) c.loop.invariant.0 done) (omega arith)) in
     let so = led rule (g.met.B.BoundingRule.sound c.args.rule.now) v c.args.from c.requires c.args.steps c.loop.at value in
     record { value = value; settles = so.settles; placed = so.placed; leads = so.leads; same_rule = c.loop.invariant.1 }

@@ -8,7 +8,7 @@ use Rattle.clearing.specs.Judging.{worth_of}
 use Rattle.clearing.specs.Lawful.{view}
 use Rattle.clearing.proofs.Ranged.{ranged_docket}
 use Rattle.rounds.specs.Search.{next_block, hopeless, settle}
-use Rattle.rounds.proofs.Placings.{lead_settled, block_inside, free-small, step-tries}
+use Rattle.rounds.proofs.Placings.{lead_settled, block_inside, free_small, step_tries}
 use Rattle.rounds.proofs.search.step.Goals as goal
 use Rattle.rounds.proofs.search.step.Goals.{in-Some, in-None}
 
@@ -16,7 +16,7 @@ pub settle-requires : goal.settle-requires
 settle-requires g c =
     let v = view c.args.docket.now in
     let few = (ranged_docket c.args.docket.now).few_packages in
-    let small = free-small v few c.args.at c.requires.placed c.requires.unfinished in
+    let small = free_small v few c.args.at c.requires.placed c.requires.unfinished in
     omega (arith, one_shl c.args.at.free 64 (omega arith), block_inside v c.args.at c.requires.placed c.requires.unfinished, pow_mono few)
 
 pub settle-requires-else-at-gt0 : goal.settle-requires-else-at-gt0
@@ -44,6 +44,6 @@ returns-else-at-gt0 g c =
       | in-None w ↦ absurd (both_ways c.match-consult.hopeful w.hopeful-is c.if-not-hopeful.false)
     ] in
     record {
-      value = c.settle-else-at-gt0.ensures ∙ ap (λ a. settle a 1) c.lead.ensures ∙ sym (step-tries rule v at hope c.if-at-gt0.false);
+      value = c.settle-else-at-gt0.ensures ∙ ap (λ a. settle a 1) c.lead.ensures ∙ sym (step_tries rule v at hope c.if-at-gt0.false);
       same_rule = c.consult.ensures.same;
     }

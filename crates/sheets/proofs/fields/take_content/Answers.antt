@@ -1,13 +1,13 @@
 -- `take_content`: the tests are the checks of a content, in their order.
 use Rattle.std.proofs.Common.{sym, ◌∙◌, rules}
 use Rattle.sheets.specs.Fields.{number_in}
-use Rattle.sheets.proofs.Contents.{placed, entry-in-range, took-status, took-outside, took-clash, took-joined}
+use Rattle.sheets.proofs.Contents.{placed, entry-in_range, took_status, took_outside, took_clash, took_joined}
 use Rattle.sheets.proofs.fields.take_content.Goals as goal
 
 pub returns-then-status-ne-WITHDRAWN : goal.returns-then-status-ne-WITHDRAWN
 returns-then-status-ne-WITHDRAWN g c =
     let done =
-    took-status g.R.Record.layout c.args.entries.now c.args.last c.args.content.now c.requires.in_range
+    took_status g.R.Record.layout c.args.entries.now c.args.last c.args.content.now c.requires.in_range
     c.tag_byte-tag.result c.tag_byte-tag.ensures c.if-not-has_entry.ensures c.if-not-rises.ensures
     c.if-status-ne-OPEN.true c.if-status-ne-WITHDRAWN.true
     c.refusal-then-status-ne-WITHDRAWN.result c.refusal-then-status-ne-WITHDRAWN.ensures in
@@ -16,7 +16,7 @@ returns-then-status-ne-WITHDRAWN g c =
 pub returns-then-field-ne0 : goal.returns-then-field-ne0
 returns-then-field-ne0 g c =
     let done =
-    took-outside g.R.Record.layout c.args.entries.now c.args.last c.args.content.now c.requires.in_range
+    took_outside g.R.Record.layout c.args.entries.now c.args.last c.args.content.now c.requires.in_range
     c.tag_byte-tag.result c.tag_byte-tag.ensures c.if-not-has_entry.ensures c.if-not-rises.ensures
     c.else-status-ne-OPEN.either c.read-record.result c.read-record.ensures
     c.fault-field.result c.fault-field.ensures c.if-field-ne0.true
@@ -37,7 +37,7 @@ agrees-requires g c = record {
 pub returns-then-not-agrees : goal.returns-then-not-agrees
 returns-then-not-agrees g c =
     let done =
-    took-clash g.R.Record.layout c.args.entries.now c.args.last c.args.content.now c.requires.in_range
+    took_clash g.R.Record.layout c.args.entries.now c.args.last c.args.content.now c.requires.in_range
     c.tag_byte-tag.result c.tag_byte-tag.ensures c.if-not-has_entry.ensures c.if-not-rises.ensures
     c.else-status-ne-OPEN.either c.read-record.result c.read-record.ensures
     (sym c.fault-field.ensures ∙ c.if-field-ne0.false)
@@ -53,7 +53,7 @@ offset_bounds-entries-at-2 g c =
 pub returns : goal.returns
 returns g c =
     let done =
-    took-joined g.R.Record.layout c.args.entries.now c.args.last c.args.content.now c.requires.in_range
+    took_joined g.R.Record.layout c.args.entries.now c.args.last c.args.content.now c.requires.in_range
     c.tag_byte-tag.result c.tag_byte-tag.ensures c.if-not-has_entry.ensures c.if-not-rises.ensures
     c.else-status-ne-OPEN.either c.read-record.result c.read-record.ensures
     (sym c.fault-field.ensures ∙ c.if-field-ne0.false)

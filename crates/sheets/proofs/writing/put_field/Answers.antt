@@ -1,5 +1,5 @@
 -- `put_field`: five bytes one after the other, then the record's.
-use Rattle.sheets.proofs.Puts.{put-field}
+use Rattle.sheets.proofs.Puts.{put_field}
 use Rattle.sheets.proofs.writing.put_field.Goals as goal
 
 pub returns : goal.returns

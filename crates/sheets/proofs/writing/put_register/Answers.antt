@@ -2,7 +2,7 @@
 use Rattle.std.proofs.Common.{arith}
 use Rattle.std.proofs.lemmas.List.{take_all}
 use Rattle.sheets.specs.Writing.{entry_bytes}
-use Rattle.sheets.proofs.Puts.{Put, put_none, put-entry, register-room}
+use Rattle.sheets.proofs.Puts.{Put, put_none, put_entry, register_room}
 use Rattle.sheets.proofs.writing.put_register.Goals as goal
 use Rattle.sheets.proofs.writing.put_register.Goals.{in-Vacant, in-Open, in-Withdrawn}
 
@@ -11,12 +11,12 @@ loop-entry-init g c = (omega arith, put_none _ _)
 
 pub put_field-next-requires : goal.put_field-next-requires
 put_field-next-requires g c =
-    let room = register-room g.R.Record.layout c.args.entries.now c.loop-entry.entry-index c.entry-item.result c.loop-entry-test.true c.entry-item.is in
+    let room = register_room g.R.Record.layout c.args.entries.now c.loop-entry.entry-index c.entry-item.result c.loop-entry-test.true c.entry-item.is in
     record { short = c.requires.short; room = omega (arith, rw c.in-Open.is at room, c.loop-entry.invariant.1.ends) }
 
 pub put_field-next-requires-in-Withdrawn : goal.put_field-next-requires-in-Withdrawn
 put_field-next-requires-in-Withdrawn g c =
-    let room = register-room g.R.Record.layout c.args.entries.now c.loop-entry.entry-index c.entry-item.result c.loop-entry-test.true c.entry-item.is in
+    let room = register_room g.R.Record.layout c.args.entries.now c.loop-entry.entry-index c.entry-item.result c.loop-entry-test.true c.entry-item.is in
     record { short = c.requires.short; room = omega (arith, rw c.in-Withdrawn.is at room, c.loop-entry.invariant.1.ends) }
 
 pub loop-entry-preserved : goal.loop-entry-preserved
@@ -33,7 +33,7 @@ loop-entry-preserved g c =
           rw (w.in-Withdrawn.is, w.next-is, w.buffer-is) (record { ends = put.end; front = put.front; back = put.back })
     ] in (
       omega arith,
-      put-entry g.R.Record.layout c.args.entries.now c.loop-entry.entry-index c.entry-item.result c.loop-entry-test.true
+      put_entry g.R.Record.layout c.args.entries.now c.loop-entry.entry-index c.entry-item.result c.loop-entry-test.true
           c.entry-item.is c.loop-entry.invariant.0 c.loop-entry.invariant.1 next,
     )
 

@@ -2,14 +2,14 @@
 use Rattle.std.proofs.Common.{◌≡◌, ◌+◌, length, ap, arith}
 use Rattle.std.proofs.lemmas.List.{length-append, take_all}
 use Rattle.sheets.specs.Writing.{entry_bytes}
-use Rattle.sheets.proofs.Puts.{length-entry, register-more}
+use Rattle.sheets.proofs.Puts.{length-entry, register_more}
 use Rattle.sheets.proofs.writing.register_length.Goals as goal
 use Rattle.sheets.proofs.writing.register_length.Goals.{in-Vacant, in_default}
 
 pub loop-entry-preserved : goal.loop-entry-preserved
 loop-entry-preserved g c =
     let k = g.R.Record.layout in
-    let more = simp length-append at (ap length (register-more k c.args.entries.now c.loop-entry.entry-index c.entry-item.result c.loop-entry-test.true c.entry-item.is)) in
+    let more = simp length-append at (ap length (register_more k c.args.entries.now c.loop-entry.entry-index c.entry-item.result c.loop-entry-test.true c.entry-item.is)) in
     elim c.match-entry.branch [
       | in-Vacant w ↦
           let none : length (entry_bytes k (c.loop-entry.entry-index + 1) c.entry-item.result) ≡ 0 = rw w.in-Vacant.is in

@@ -4,18 +4,18 @@ use Rattle.std.proofs.lemmas.Int.{ints}
 use Rattle.clearing.specs.Lawful.{view, paid, filled_sales}
 use Rattle.clearing.proofs.Ranged.{ranged_docket}
 use Rattle.clearing.proofs.Ruled.{income-is}
-use Rattle.clearing.proofs.Sellings.{Sold, sold-in-all}
+use Rattle.clearing.proofs.Sellings.{Sold, sold_in_all}
 use Rattle.bounds.specs.Parts.{few_digits}
 use Rattle.bounds.proofs.all_in.AllInBoundingRule.consult.Goals as goal
 
 pub overflow_cast-result : goal.overflow_cast-result
 overflow_cast-result c =
-    let sold = subst Sold (sym c.sell-sales.ensures) (sold-in-all c.of-all.result.supply c.args.docket.now) in
+    let sold = subst Sold (sym c.sell-sales.ensures) (sold_in_all c.of-all.result.supply c.args.docket.now) in
     omega (arith, ints, sold.income)
 
 pub overflow_sub-result : goal.overflow_sub-result
 overflow_sub-result c =
-    let sold = subst Sold (sym c.sell-sales.ensures) (sold-in-all c.of-all.result.supply c.args.docket.now) in
+    let sold = subst Sold (sym c.sell-sales.ensures) (sold_in_all c.of-all.result.supply c.args.docket.now) in
     omega (arith, ints, sold.income, c.least_cost.ensures.low, c.least_cost.ensures.high)
 
 pub last-requires : goal.last-requires
@@ -26,7 +26,7 @@ last-requires c =
 pub returns : goal.returns
 returns c =
     let d = c.args.docket.now in
-    let sold = subst Sold (sym c.sell-sales.ensures) (sold-in-all c.of-all.result.supply d) in
+    let sold = subst Sold (sym c.sell-sales.ensures) (sold_in_all c.of-all.result.supply d) in
     let income =
     income-is d c.last.result c.of-all.result c.sell-sales.result c.of-all.ensures c.sell-sales.ensures
     ∙ ap (λ choice. paid (vec_items d.bands) (filled_sales (view d) choice)) c.last.ensures in

@@ -8,7 +8,7 @@ use Rattle.clearing.specs.Judging.{pairs_met, groups_apart, zones_within}
 use Rattle.clearing.specs.Kept.{PairsKept, ExclusionsKept, ZonesKept}
 use Rattle.clearing.specs.Lawful.{View, view}
 use Rattle.clearing.specs.Tallies.{tally_of}
-use Rattle.clearing.proofs.Judged.{pairs-tested, groups-tested, zones-tested}
+use Rattle.clearing.proofs.Judged.{pairs-tested, groups_tested, zones-tested}
 use Rattle.clearing.proofs.Ranged.{ranged_docket}
 use Rattle.bounds.specs.declared.blocks.Block.{Block}
 use Rattle.bounds.specs.Rules.{last_of, fixed, possible, ceiling}
@@ -32,19 +32,19 @@ tested v b = pairs_test v b && (groups_test v b && zones_test v b)
 
 module _ (d : Docket) (b : Block) (t : Tally) (counted : t ≡ tally_of (fixed (view d) b)) (r s : Bool) (says : r ≡ s) where
   -- the test of pairs says the same of the packages
-  pairs-say : (last : ℕ) (w : Tally) → w ≡ tally_of (taken (vec_items d.packages) last) → last ≡ last_of b
+  pairs_say : (last : ℕ) (w : Tally) → w ≡ tally_of (taken (vec_items d.packages) last) → last ≡ last_of b
       → Decides r (PairsKept (vec_items d.pairs) t.takes w.takes) → pairs_test (view d) b ≡ s
-  pairs-say last w others is decides =
+  pairs_say last w others is decides =
       let all = others ∙ ap (λ n. tally_of (taken (vec_items d.packages) n)) is in
       sym (pairs-tested (fixed (view d) b) t counted r (possible (view d) b) w all (vec_items d.pairs) d.pairs_fit decides) ∙ says
 
   -- so does that of exclusions
-  groups-say : Decides r (ExclusionsKept (vec_items d.exclusions) t.takes) → groups_test (view d) b ≡ s
-  groups-say decides = sym (groups-tested (fixed (view d) b) t counted r (vec_items d.exclusions) d.exclusions_fit decides) ∙ says
+  groups_say : Decides r (ExclusionsKept (vec_items d.exclusions) t.takes) → groups_test (view d) b ≡ s
+  groups_say decides = sym (groups_tested (fixed (view d) b) t counted r (vec_items d.exclusions) d.exclusions_fit decides) ∙ says
 
   -- and that of zones
-  zones-say : Decides r (ZonesKept (vec_items d.limits) t.nameplate t.export) → zones_test (view d) b ≡ s
-  zones-say decides = sym (zones-tested (fixed (view d) b) t counted r (vec_items d.limits) d.limits_fit decides) ∙ says
+  zones_say : Decides r (ZonesKept (vec_items d.limits) t.nameplate t.export) → zones_test (view d) b ≡ s
+  zones_say decides = sym (zones-tested (fixed (view d) b) t counted r (vec_items d.limits) d.limits_fit decides) ∙ says
 
 pub last-requires : goal.last-requires
 last-requires c =
@@ -56,9 +56,9 @@ returns-then-zones_kept c =
     let d = c.args.docket.now in
     let b = c.args.block in
     let t = c.of-taken.result in
-    let pairs = pairs-say d b t c.of-taken.ensures c.pairs_kept.result true c.if-pairs_kept.true c.last.result c.of-possible.result c.of-possible.ensures c.last.ensures c.pairs_kept.ensures in
-    let groups = groups-say d b t c.of-taken.ensures c.exclusions_kept.result true c.if-exclusions_kept.true c.exclusions_kept.ensures in
-    let zones = zones-say d b t c.of-taken.ensures c.zones_kept.result true c.if-zones_kept.true c.zones_kept.ensures in
+    let pairs = pairs_say d b t c.of-taken.ensures c.pairs_kept.result true c.if-pairs_kept.true c.last.result c.of-possible.result c.of-possible.ensures c.last.ensures c.pairs_kept.ensures in
+    let groups = groups_say d b t c.of-taken.ensures c.exclusions_kept.result true c.if-exclusions_kept.true c.exclusions_kept.ensures in
+    let zones = zones_say d b t c.of-taken.ensures c.zones_kept.result true c.if-zones_kept.true c.zones_kept.ensures in
     record { answer = sym (cond-true (tested (view d) b) (Some ceiling) None (and_from _ _ pairs (and_from _ _ groups zones))); same = refl }
 
 pub returns-else-pairs_kept : goal.returns-else-pairs_kept
@@ -69,10 +69,10 @@ returns-else-pairs_kept c =
     let fails : tested (view d) b ≡ false =
     elim c.else-pairs_kept.branch [
       | else-pairs_kept-via-then-pairs_kept+then-exclusions_kept+else-zones_kept w ↦
-          and_right (pairs_test (view d) b) _ (and_right (groups_test (view d) b) _ (zones-say d b t c.of-taken.ensures w.zones_kept.result false w.if-zones_kept.false w.zones_kept.ensures))
+          and_right (pairs_test (view d) b) _ (and_right (groups_test (view d) b) _ (zones_say d b t c.of-taken.ensures w.zones_kept.result false w.if-zones_kept.false w.zones_kept.ensures))
       | else-pairs_kept-via-then-pairs_kept+else-exclusions_kept w ↦
-          and_right (pairs_test (view d) b) _ (and_left _ _ (groups-say d b t c.of-taken.ensures w.exclusions_kept.result false w.if-exclusions_kept.false w.exclusions_kept.ensures))
+          and_right (pairs_test (view d) b) _ (and_left _ _ (groups_say d b t c.of-taken.ensures w.exclusions_kept.result false w.if-exclusions_kept.false w.exclusions_kept.ensures))
       | else-pairs_kept-via-else-pairs_kept w ↦
-          and_left _ _ (pairs-say d b t c.of-taken.ensures c.pairs_kept.result false w.if-pairs_kept.false c.last.result c.of-possible.result c.of-possible.ensures c.last.ensures c.pairs_kept.ensures)
+          and_left _ _ (pairs_say d b t c.of-taken.ensures c.pairs_kept.result false w.if-pairs_kept.false c.last.result c.of-possible.result c.of-possible.ensures c.last.ensures c.pairs_kept.ensures)
     ] in
     record { answer = sym (cond-false (tested (view d) b) (Some ceiling) None fails); same = refl }

@@ -6,7 +6,7 @@ use Rattle.clearing.specs.Bands.{aheads, true_aheads}
 use Rattle.clearing.specs.Closing.{open_from}
 use Rattle.clearing.specs.Lawful.{view, nothing_open}
 use Rattle.clearing.proofs.Openings.{bands_rise, bands-ahead}
-use Rattle.clearing.proofs.Pricings.{at_price, priced-all}
+use Rattle.clearing.proofs.Pricings.{at_price, priced_all}
 use Rattle.clearing.proofs.Closings.{closing-priced, docket_is}
 use Rattle.clearing.proofs.dockets.Docket.close.Goals as goal
 
@@ -37,7 +37,7 @@ invariant_of-self g c =
                           (
                             rw c.copy_bands.ensures.items (bands_rise bands),
                             (
-                              subst (λ bs. aheads bs ≡ true_aheads bs) (sym c.copy_bands.ensures.items) (bands_ahead bands),
+                              subst (λ bs. aheads bs ≡ true_aheads bs) (sym c.copy_bands.ensures.items) (bands-ahead bands),
                               (
                                 c.copy_bands.ensures.fit,
                                 (
@@ -69,7 +69,7 @@ returns g c =
     let meaning = g.P.PriceRule.meaning c.args.rule.now in
     let prices = c.in_ok-prices.prices in
     let ps = map (at_price prices) (open_from 1 all.packages) in
-    let prices-are = priced-all meaning all.packages prices c.in_ok-prices.ensures.answer in
+    let prices-are = priced_all meaning all.packages prices c.in_ok-prices.ensures.answer in
     let made = closing-priced before all meaning ps prices-are in
     let docket = docket_is _ all ps c.copy_packages.ensures.items c.copy_bands.ensures.items c.copy_open.ensures.items c.copy_open-2.ensures.items c.copy_open-3.ensures.items in
     record {

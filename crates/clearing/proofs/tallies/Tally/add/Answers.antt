@@ -1,7 +1,7 @@
 -- `add`: each sum takes up what the package counts in it, and has room for it.
 use Rattle.std.proofs.Common.{◌≡◌, ◌-◌, get_or, ap, ◌∙◌, arith}
 use Rattle.clearing.specs.declared.tallies.Tally.{Tally}
-use Rattle.clearing.proofs.Addings.{Sized, begun, with_before, with_after, on-date, dated-yes, dated-no, dated-is, zoned, added-zoned, added-plain}
+use Rattle.clearing.proofs.Addings.{Sized, begun, with_before, with_after, on_date, dated_yes, dated_no, dated-is, zoned, added-zoned, added-plain}
 use Rattle.std.proofs.lemmas.Int.{ints}
 use Rattle.clearing.proofs.Fits.{each-most, priced_ranges}
 use Rattle.clearing.proofs.tallies.Tally.add.Goals as goal
@@ -70,15 +70,15 @@ returns-then-record-eq1-2 c =
     let ranges = priced_ranges p c.requires.fits in
     let u = c.if-record-eq1.self in
     let base = begun t p c.add_supply.new.supply in
-    let first : u ≡ with_before (on-date t p 1 t.before) base =
+    let first : u ≡ with_before (on_date t p 1 t.before) base =
     elim c.if-record-eq1.branch [
-      | then-record-eq1 w ↦ w.self-is ∙ ap (λ xs. with_before xs base) (dated-yes t p 1 t.before _ w.if-record-eq1.true w.add_supply-then-record-eq1.ensures)
-      | else-record-eq1 w ↦ w.self-is ∙ ap (λ xs. with_before xs base) (dated-no t p 1 t.before w.if-record-eq1.false)
+      | then-record-eq1 w ↦ w.self-is ∙ ap (λ xs. with_before xs base) (dated_yes t p 1 t.before _ w.if-record-eq1.true w.add_supply-then-record-eq1.ensures)
+      | else-record-eq1 w ↦ w.self-is ∙ ap (λ xs. with_before xs base) (dated_no t p 1 t.before w.if-record-eq1.false)
     ] in
-    let second : c.if-record-eq2.self ≡ with_after (on-date t p 2 u.after) u =
+    let second : c.if-record-eq2.self ≡ with_after (on_date t p 2 u.after) u =
     elim c.if-record-eq2.branch [
-      | then-record-eq2 w ↦ w.self-is ∙ ap (λ xs. with_after xs u) (dated-yes t p 2 u.after _ w.if-record-eq2.true w.add_supply-then-record-eq2.ensures)
-      | else-record-eq2 w ↦ w.self-is ∙ ap (λ xs. with_after xs u) (dated-no t p 2 u.after w.if-record-eq2.false)
+      | then-record-eq2 w ↦ w.self-is ∙ ap (λ xs. with_after xs u) (dated_yes t p 2 u.after _ w.if-record-eq2.true w.add_supply-then-record-eq2.ensures)
+      | else-record-eq2 w ↦ w.self-is ∙ ap (λ xs. with_after xs u) (dated_no t p 2 u.after w.if-record-eq2.false)
     ] in
     let long : Sized t = record { supply = omega arith; before = omega arith; after = omega arith; nameplate = omega arith; export = omega arith } in
     let dated = dated-is t p c.requires.room ranges c.add_supply.new.supply u c.if-record-eq2.self c.add_supply.ensures first second in
@@ -91,15 +91,15 @@ returns-else-record-eq1-2 c =
     let ranges = priced_ranges p c.requires.fits in
     let u = c.if-record-eq1.self in
     let base = begun t p c.add_supply.new.supply in
-    let first : u ≡ with_before (on-date t p 1 t.before) base =
+    let first : u ≡ with_before (on_date t p 1 t.before) base =
     elim c.if-record-eq1.branch [
-      | then-record-eq1 w ↦ w.self-is ∙ ap (λ xs. with_before xs base) (dated-yes t p 1 t.before _ w.if-record-eq1.true w.add_supply-then-record-eq1.ensures)
-      | else-record-eq1 w ↦ w.self-is ∙ ap (λ xs. with_before xs base) (dated-no t p 1 t.before w.if-record-eq1.false)
+      | then-record-eq1 w ↦ w.self-is ∙ ap (λ xs. with_before xs base) (dated_yes t p 1 t.before _ w.if-record-eq1.true w.add_supply-then-record-eq1.ensures)
+      | else-record-eq1 w ↦ w.self-is ∙ ap (λ xs. with_before xs base) (dated_no t p 1 t.before w.if-record-eq1.false)
     ] in
-    let second : c.if-record-eq2.self ≡ with_after (on-date t p 2 u.after) u =
+    let second : c.if-record-eq2.self ≡ with_after (on_date t p 2 u.after) u =
     elim c.if-record-eq2.branch [
-      | then-record-eq2 w ↦ w.self-is ∙ ap (λ xs. with_after xs u) (dated-yes t p 2 u.after _ w.if-record-eq2.true w.add_supply-then-record-eq2.ensures)
-      | else-record-eq2 w ↦ w.self-is ∙ ap (λ xs. with_after xs u) (dated-no t p 2 u.after w.if-record-eq2.false)
+      | then-record-eq2 w ↦ w.self-is ∙ ap (λ xs. with_after xs u) (dated_yes t p 2 u.after _ w.if-record-eq2.true w.add_supply-then-record-eq2.ensures)
+      | else-record-eq2 w ↦ w.self-is ∙ ap (λ xs. with_after xs u) (dated_no t p 2 u.after w.if-record-eq2.false)
     ] in
     let long : Sized t = record { supply = omega arith; before = omega arith; after = omega arith; nameplate = omega arith; export = omega arith } in
     let dated = dated-is t p c.requires.room ranges c.add_supply.new.supply u c.if-record-eq2.self c.add_supply.ensures first second in

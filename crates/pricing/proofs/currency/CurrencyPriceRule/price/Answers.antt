@@ -8,12 +8,12 @@ use Rattle.pricing.proofs.currency.CurrencyPriceRule.price.Goals as goal
 module _ (below product : ℤ) (rate : ℕ)
     (span : nat_abs below ≤ 20000000000) (is : product ≡ pos rate) (most : rate ≤ 220000000) where
   -- the product of the machine's numbers is the product
-  product-read : to_z w64 (of_z w64 below) *ℤ to_z w64 (of_z w64 product) ≡ below *ℤ pos rate
-  product-read = rw (is, to_z-of_z w64 below (omega (arith, ints)), to_z-of_z w64 (pos rate) (omega (arith, ints)))
+  product_read : to_z w64 (of_z w64 below) *ℤ to_z w64 (of_z w64 product) ≡ below *ℤ pos rate
+  product_read = rw (is, to_z-of_z w64 below (omega (arith, ints)), to_z-of_z w64 (pos rate) (omega (arith, ints)))
 
   -- the product of the machine's numbers fits
-  product-fits : SFits w64 (to_z w64 (of_z w64 below) *ℤ to_z w64 (of_z w64 product))
-  product-fits = rw product-read (omega (arith, ints, product_span below rate 20000000000 220000000 span most))
+  product_fits : SFits w64 (to_z w64 (of_z w64 below) *ℤ to_z w64 (of_z w64 product))
+  product_fits = rw product_read (omega (arith, ints, product_span below rate 20000000000 220000000 span most))
 
 pub overflow_mul-below : goal.overflow_mul-below
 overflow_mul-below g c =
@@ -24,7 +24,7 @@ overflow_mul-below g c =
     let came : Ok c.in_ok-below.below ≡ priced = search rules in
     let bounded = g.met.P.PriceRule.bounded c.args.self.now.below c.args.package.now in
     let span = price_span priced came bounded in
-    product-fits c.in_ok-below.below c.product.result rate span c.product.ensures.value most
+    product_fits c.in_ok-below.below c.product.result rate span c.product.ensures.value most
 
 pub returns-then-package-eq1 : goal.returns-then-package-eq1
 returns-then-package-eq1 g c =
@@ -37,8 +37,8 @@ returns-then-package-eq1 g c =
     let came : Ok c.in_ok-below.below ≡ priced = search rules in
     let bounded = g.met.P.PriceRule.bounded c.args.self.now.below c.args.package.now in
     let span = price_span priced came bounded in
-    let fits = product-fits below product rate span c.product.ensures.value most in
-    let read = product-read below product rate span c.product.ensures.value most in
+    let fits = product_fits below product rate span c.product.ensures.value most in
+    let read = product_read below product rate span c.product.ensures.value most in
     let out : SFits w64 c.round_up.result = search rules in
     record {
       answer =

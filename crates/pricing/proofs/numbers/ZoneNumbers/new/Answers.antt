@@ -31,4 +31,4 @@ loop-number-preserved c =
 pub invariant_of-result : goal.invariant_of-result
 invariant_of-result c =
     let past = at_drop_all zone_numbers c.args.numbers c.loop-number.number-index (omega arith) in
-    (sym c.loop-number.invariant ∙ past, tt)
+    record { in_range = sym c.loop-number.invariant ∙ past }

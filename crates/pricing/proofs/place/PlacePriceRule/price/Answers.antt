@@ -13,16 +13,16 @@ module _ (zones : ZoneNumbers) (place : ℕ) (number : ℤ) (energy : ℕ)
   near = rw is (zone_span zones.numbers place zones.in_range)
 
   -- the product lies within a thousand times the most energy
-  product-near : nat_abs (number *ℤ pos energy) ≤ 4294967296000
-  product-near = product_span number energy 1000 4294967296 near (omega arith)
+  product_near : nat_abs (number *ℤ pos energy) ≤ 4294967296000
+  product_near = product_span number energy 1000 4294967296 near (omega arith)
 
   -- the product of the machine's numbers is the product
-  product-read : to_z w64 (of_z w64 number) *ℤ to_z w64 energy ≡ number *ℤ pos energy
-  product-read = rw (to_z-of_z w64 number (omega (arith, ints, near)), to_z_pos w64 energy (omega arith))
+  product_read : to_z w64 (of_z w64 number) *ℤ to_z w64 energy ≡ number *ℤ pos energy
+  product_read = rw (to_z-of_z w64 number (omega (arith, ints, near)), to_z_pos w64 energy (omega arith))
 
   -- the product of the machine's numbers fits
-  product-fits : SFits w64 (to_z w64 (of_z w64 number) *ℤ to_z w64 energy)
-  product-fits = rw product-read (omega (arith, ints, product-near))
+  product_fits : SFits w64 (to_z w64 (of_z w64 number) *ℤ to_z w64 energy)
+  product_fits = rw product_read (omega (arith, ints, product_near))
 
   module _ (below : ℤ) (span : nat_abs below ≤ 20000000000) where
     -- the sum of the machine's numbers is the sum
@@ -30,18 +30,18 @@ module _ (zones : ZoneNumbers) (place : ℕ) (number : ℤ) (energy : ℕ)
         ≡ below +ℤ (number *ℤ pos energy)
     sum_read =
         rw (
-          to_z-of_z w64 (to_z w64 (of_z w64 number) *ℤ to_z w64 energy) product-fits,
-          product-read,
+          to_z-of_z w64 (to_z w64 (of_z w64 number) *ℤ to_z w64 energy) product_fits,
+          product_read,
           to_z-of_z w64 below (omega (arith, ints)),
         )
 
     -- the sum of the machine's numbers fits
     sum_fits : SFits w64 (to_z w64 (of_z w64 below) +ℤ to_z w64 (of_z w64 (to_z w64 (of_z w64 number) *ℤ to_z w64 energy)))
-    sum_fits = rw sum_read (omega (arith, ints, product-near))
+    sum_fits = rw sum_read (omega (arith, ints, product_near))
 
 pub overflow_mul-number : goal.overflow_mul-number
 overflow_mul-number g c =
-    product-fits c.args.self.now.numbers _ c.of_zone-number.result c.args.package.now.energy
+    product_fits c.args.self.now.numbers _ c.of_zone-number.result c.args.package.now.energy
     c.of_zone-number.ensures (search rules)
 
 pub overflow_add-below : goal.overflow_add-below
