@@ -10,57 +10,14 @@ use Rattle.clearing.proofs.Pricings.{at_price, priced_all}
 use Rattle.clearing.proofs.Closings.{closing-priced, docket_is}
 use Rattle.clearing.proofs.dockets.Docket.close.Goals as goal
 
-pub invariant_of-self : goal.invariant_of-self
-invariant_of-self g c =
-    let bands = c.args.offers.now.bands in (
-      omega arith,
-      (
-        omega arith,
-        (
-          omega arith,
-          (
-            omega arith,
-            (
-              omega arith,
-              (
-                omega arith,
-                (
-                  omega arith,
-                  (
-                    omega arith,
-                    (
-                      omega arith,
-                      (
-                        omega arith,
-                        (
-                          c.copy_packages.ensures.fit,
-                          (
-                            rw c.copy_bands.ensures.items (bands_rise bands),
-                            (
-                              subst (λ bs. aheads bs ≡ true_aheads bs) (sym c.copy_bands.ensures.items) (bands-ahead bands),
-                              (
-                                c.copy_bands.ensures.fit,
-                                (
-                                  c.copy_open.ensures.fit,
-                                  (
-                                    c.copy_open-2.ensures.fit,
-                                    (c.copy_open-3.ensures.fit, tt),
-                                  ),
-                                ),
-                              ),
-                            ),
-                          ),
-                        ),
-                      ),
-                    ),
-                  ),
-                ),
-              ),
-            ),
-          ),
-        ),
-      ),
-    )
+pub invariant_of-self-clause-packages_fit : goal.invariant_of-self-clause-packages_fit
+invariant_of-self-clause-packages_fit g c = c.copy_packages.ensures.fit
+
+pub invariant_of-self-clause-bands_rise : goal.invariant_of-self-clause-bands_rise
+invariant_of-self-clause-bands_rise g c = rw c.copy_bands.ensures.items (bands_rise c.args.offers.now.bands)
+
+pub invariant_of-self-clause-bands_ahead : goal.invariant_of-self-clause-bands_ahead
+invariant_of-self-clause-bands_ahead g c = subst (λ bs. aheads bs ≡ true_aheads bs) (sym c.copy_bands.ensures.items) (bands-ahead c.args.offers.now.bands)
 
 pub returns : goal.returns
 returns g c =
