@@ -4,26 +4,34 @@ use Rattle.clearing.specs.Closing.{ByClosing}
 use Rattle.clearing.specs.Lawful.{View, Lawful, surplus, choices}
 use Rattle.bounds.specs.declared.blocks.Block.{Block}
 
+-- A block as plain numbers: its first choice, and how many of its lowest digits are free.
+pub record Span : Type 0 where
+  pub first : ℕ
+  pub free : ℕ
+
+abbrev pub span : Block → Span
+span b = record { first = b.first; free = b.free }
+
 -- a block of a docket: its first choice is one of the docket's, and has a 0 for each free digit
-pub record InDocket (v : View) (b : Block) : Type 0 where
+pub record InDocket (v : View) (b : Span) : Type 0 where
   pub few : b.free ≤ length v.packages
   pub zeros : b.first % 2 ^ b.free ≡ 0
   pub below : b.first < choices v
 
 -- the choices of a block: whatever the free digits are
-pub record InBlock (b : Block) (choice : ℕ) : Type 0 where
+pub record InBlock (b : Span) (choice : ℕ) : Type 0 where
   pub from : b.first ≤ choice
   pub below : choice < b.first + 2 ^ b.free
 
 -- what an answer says of a block: a cap in pesos is at least the surplus of every lawful choice in it, with any sales; none, that no choice in it is lawful
-abbrev pub Claims : View → Block → Option ℤ → Type 0
+abbrev pub Claims : View → Span → Option ℤ → Type 0
 Claims v b (Some cap) = (choice : ℕ) (sales : List ℕ) → InBlock b choice → Lawful v choice sales → surplus v choice sales ≤ℤ cap
 Claims v b None = (choice : ℕ) (sales : List ℕ) → InBlock b choice → Lawful v choice sales → ⊥
 
 -- a rule's meaning: one answer for each docket and block
 abbrev pub Answers : Type 0
-Answers = View → Block → Option ℤ
+Answers = View → Span → Option ℤ
 
 -- a meaning is sound if its answers are true of every docket that a closing makes and every block of it
 abbrev pub SoundRule : Answers → Type 0
-SoundRule answers = (v : View) (b : Block) → ByClosing v → InDocket v b → Claims v b (answers v b)
+SoundRule answers = (v : View) (b : Span) → ByClosing v → InDocket v b → Claims v b (answers v b)

@@ -16,14 +16,13 @@ use Rattle.clearing.proofs.Ranged.{Ranged}
 use Rattle.clearing.proofs.RowRules.{all_both}
 use Rattle.clearing.proofs.Takings.{taken-fits, taken-few}
 use Rattle.clearing.proofs.Tallying.{cost_between}
-use Rattle.bounds.specs.declared.blocks.Block.{Block}
-use Rattle.bounds.specs.Blocks.{InDocket, InBlock, Claims}
+use Rattle.bounds.specs.Blocks.{Span, InDocket, InBlock, Claims}
 use Rattle.bounds.specs.Rules.{last_of, fixed, possible, ceiling, always, all_in, limits_kept, smaller}
 use Rattle.bounds.specs.Costs.{cost-least}
 use Rattle.bounds.specs.Parts.{first_part, last_part}
 
 -- a cap below two others holds where they do, and none where either does
-pub smaller-sound : (v : View) (b : Block) (one other : Option ℤ) → Claims v b one → Claims v b other → Claims v b (smaller one other)
+pub smaller-sound : (v : View) (b : Span) (one other : Option ℤ) → Claims v b one → Claims v b other → Claims v b (smaller one other)
 smaller-sound v b None other none claims = none
 smaller-sound v b (Some cap) None claims none = none
 smaller-sound v b (Some cap) (Some other) caps others =
@@ -49,10 +48,10 @@ module _ (v : View) (ranged : Ranged v) where
       omega (arith, ints, income, costs.0, taken-few v.packages choice, ranged.few_packages, ranged.few_bands)
 
   -- so the ceiling is a cap of any block
-  pub always-sound : (b : Block) → Claims v b (always v b)
+  pub always-sound : (b : Span) → Claims v b (always v b)
   always-sound b choice sales inside lawful = surplus-few choice sales lawful
 
-  module _ (b : Block) (block : InDocket v b) where
+  module _ (b : Span) (block : InDocket v b) where
     -- a choice of a block earns no more than the last with filled sales, and costs no less than is counted
     pub all_in-sound : Claims v b (all_in v b)
     all_in-sound choice sales inside lawful =

@@ -11,8 +11,7 @@ use Rattle.clearing.specs.declared.dockets.PricedPackage.{PricedPackage}
 use Rattle.clearing.specs.Choices.{taken, cost}
 use Rattle.clearing.specs.Lawful.{View}
 use Rattle.clearing.proofs.Fits.{PricedRanges}
-use Rattle.bounds.specs.declared.blocks.Block.{Block}
-use Rattle.bounds.specs.Blocks.{InDocket, InBlock}
+use Rattle.bounds.specs.Blocks.{Span, InDocket, InBlock}
 use Rattle.bounds.specs.Rules.{fixed, free_ones, below_zero}
 use Rattle.bounds.specs.Parts.{lowest, fixed_digits, first_is, free_digits, choice_is}
 
@@ -67,7 +66,7 @@ least-is (suc k) q r low (p ∷ ps) =
     ∙ turned (int_min p.price (pos 0)) (cost (taken ps (q * 2 ^ k + 0))) (below_zero (take k ps))
     ∙ sym (ap₂ (λ digit digits. cost (cond (digit == 1) (p ∷ taken ps digits) (taken ps digits)) +ℤ below_zero (p ∷ take k ps)) first.0 first.1)
 
-module _ (v : View) (b : Block) (block : InDocket v b) where
+module _ (v : View) (b : Span) (block : InDocket v b) where
   -- what a block of a docket costs at least, by its first choice
   pub least_first : least_cost b.free b.first v.packages ≡ cost (fixed v b) +ℤ below_zero (free_ones v b)
   least_first = rw (first_is v b block) at (least-is b.free (fixed_digits v b block) 0 (pow_pos b.free) v.packages)
@@ -79,12 +78,12 @@ module _ (v : View) (b : Block) (block : InDocket v b) where
       omega (arith, ints, rw (choice_is v b block choice inside, first_is v b block) at same, least-most b.free choice v.packages)
 
 -- The packages before a place counted: no more than the greatest price for each, either way, and with what is left the whole.
-pub record Counted (b : Block) (items : List PricedPackage) (i : ℕ) (so_far : ℤ) (digits : ℕ) : Type 0 where
+pub record Counted (b : Span) (items : List PricedPackage) (i : ℕ) (so_far : ℤ) (digits : ℕ) : Type 0 where
   pub low : neg_ℤ (pos (20000000000 * i)) ≤ℤ so_far
   pub high : so_far ≤ℤ pos (20000000000 * i)
   pub whole : so_far +ℤ least_cost (b.free - i) digits (drop i items) ≡ least_cost b.free b.first items
 
-module _ (b : Block) (items : List PricedPackage) where
+module _ (b : Span) (items : List PricedPackage) where
   -- at the start none is
   pub counted_none : Counted b items 0 (pos 0) b.first
   counted_none =

@@ -14,8 +14,7 @@ use Rattle.clearing.proofs.Diminishing.{paid-added}
 use Rattle.clearing.proofs.Filling.{ranged as ranges_of}
 use Rattle.clearing.proofs.Held.{no_package}
 use Rattle.clearing.proofs.Ranged.{Ranged, filled-most}
-use Rattle.bounds.specs.declared.blocks.Block.{Block}
-use Rattle.bounds.specs.Blocks.{InDocket, InBlock, Claims}
+use Rattle.bounds.specs.Blocks.{Span, InDocket, InBlock, Claims}
 use Rattle.bounds.specs.Rules.{unlimited, gains, one_by_one}
 use Rattle.bounds.specs.Parts.{lowest, first_part}
 
@@ -57,7 +56,7 @@ divides_less n i k divides less =
     let more : n % 2 ^ (k - i + i) ≡ 0 = rw whole divides in
     sym (mod-mod-pow n (k - i) i) ∙ ap (λ m. m % 2 ^ i) more ∙ zero-mod (2 ^ i)
 
-module _ (v : View) (ranged : Ranged v) (b : Block) (block : InDocket v b) where
+module _ (v : View) (ranged : Ranged v) (b : Span) (block : InDocket v b) where
   -- what one free package more adds to a choice of the block, by the digits below its own
   one_more : (i r : ℕ) → i < b.free → r < 2 ^ i → More (slice_index_or v.packages i no_package) (taken v.packages (b.first + r)) (taken v.packages (b.first + (r + 2 ^ i)))
   one_more i r free low =

@@ -8,8 +8,7 @@ use Rattle.clearing.specs.declared.dockets.PricedPackage.{PricedPackage}
 use Rattle.clearing.specs.Choices.{taken, total, has_number}
 use Rattle.clearing.specs.Lawful.{View}
 use Rattle.clearing.proofs.Ranged.{Ranged}
-use Rattle.bounds.specs.declared.blocks.Block.{Block}
-use Rattle.bounds.specs.Blocks.{InDocket, InBlock}
+use Rattle.bounds.specs.Blocks.{Span, InDocket, InBlock}
 use Rattle.bounds.specs.Rules.{last_of, fixed, possible}
 
 -- Packages that are part of others: no amount comes to more over them, and each is among the others.
@@ -68,7 +67,7 @@ taken_part (suc k) q r s low high ends (p ∷ ps) =
     (part_next p _ _ (taken_part k q (r / 2) (s / 2) (omega arith) (omega arith) halves ps) _ _
     (λ e. eq-eqb (s % 2) 1 (digit (eqb-true (r % 2) 1 e))))
 
-module _ (v : View) (b : Block) (block : InDocket v b) where
+module _ (v : View) (b : Span) (block : InDocket v b) where
   -- the digits of a block that are not free
   abbrev pub fixed_digits : ℕ
   fixed_digits = b.first / 2 ^ b.free
@@ -102,7 +101,7 @@ module _ (v : View) (b : Block) (block : InDocket v b) where
         rw (choice_is, last_is) at (taken_part b.free fixed_digits (choice - b.first) (2 ^ b.free - 1) free_digits (omega arith) (inr (omega arith)) v.packages)
 
 -- a block of a docket in range has few free digits, and a small first choice
-pub few_digits : (v : View) (b : Block) → Ranged v → InDocket v b → (b.first < 2 ^ 40) × (b.free ≤ 40)
+pub few_digits : (v : View) (b : Span) → Ranged v → InDocket v b → (b.first < 2 ^ 40) × (b.free ≤ 40)
 few_digits v b ranged block =
     let most : 2 ^ length v.packages ≤ 2 ^ 40 = pow_mono ranged.few_packages in
     (omega (arith, most, block.below), omega (arith, block.few, ranged.few_packages))

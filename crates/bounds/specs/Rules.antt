@@ -5,23 +5,22 @@ use Rattle.clearing.specs.declared.dockets.PricedPackage.{PricedPackage}
 use Rattle.clearing.specs.Choices.{taken, cost}
 use Rattle.clearing.specs.Judging.{pairs_met, groups_apart, zones_within}
 use Rattle.clearing.specs.Lawful.{View, paid, surplus, filled_sales}
-use Rattle.bounds.specs.declared.blocks.Block.{Block}
-use Rattle.bounds.specs.Blocks.{Answers}
+use Rattle.bounds.specs.Blocks.{Span, Answers}
 
 -- the choice of a block that takes every free package
-abbrev pub last_of : Block → ℕ
+abbrev pub last_of : Span → ℕ
 last_of b = b.first + (2 ^ b.free - 1)
 
 -- the packages that every choice of a block takes
-abbrev pub fixed : View → Block → List PricedPackage
+abbrev pub fixed : View → Span → List PricedPackage
 fixed v b = taken v.packages b.first
 
 -- those that some choice of it takes
-abbrev pub possible : View → Block → List PricedPackage
+abbrev pub possible : View → Span → List PricedPackage
 possible v b = taken v.packages (last_of b)
 
 -- those that stand for the free digits
-abbrev pub free_ones : View → Block → List PricedPackage
+abbrev pub free_ones : View → Span → List PricedPackage
 free_ones v b = take b.free v.packages
 
 -- of prices only what is below 0, together

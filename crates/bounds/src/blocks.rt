@@ -1,8 +1,5 @@
 // A block of choices, and what every bounding rule owes.
 ghost use Rattle.std.specs.Prelude.{◌≡◌, ◌^◌, ◌<◌, ◌≤◌};
-ghost use Rattle.clearing.specs.Lawful.{view};
-ghost use Rattle.bounds.specs.Blocks.{Answers, SoundRule, InDocket};
-ghost use Rattle.bounds.specs.Rules.{last_of};
 
 use clearing::dockets::Docket;
 
@@ -16,9 +13,12 @@ pub struct Block {
 }
 
 impl Block {
+    ghost use Rattle.bounds.specs.Blocks.{span};
+    ghost use Rattle.bounds.specs.Rules.{last_of};
+
     // The choice of the block that takes all free packages.
     pub fn last(self) -> u64
-        ensures { result ≡ last_of self }
+        ensures { result ≡ last_of (span self) }
     {
         self.first + ((1u64 << self.free) - 1)
     }
@@ -31,10 +31,13 @@ pub const CEILING: i64 = 100_000_000_000_000_000;
 // choice in the block, or `None`: there is no lawful choice in it. It may keep what it worked out, but not change its
 // meaning.
 pub trait BoundingRule {
+    ghost use Rattle.clearing.specs.Lawful.{view};
+    ghost use Rattle.bounds.specs.Blocks.{span, Answers, SoundRule, InDocket};
+
     ghost answers: { Self → Answers };
 
     fn consult(&mut self, docket: &Docket, block: Block) -> Option<i64>
-        ensures answer { InDocket (view docket.now) block → result ≡ answers self.old (view docket.now) block }
+        ensures answer { InDocket (view docket.now) (span block) → result ≡ answers self.old (view docket.now) (span block) }
         ensures same { answers self.new ≡ answers self.old };
 
     ghost sound: { (s : Self) → SoundRule (answers s) };

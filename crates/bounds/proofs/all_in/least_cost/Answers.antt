@@ -8,6 +8,7 @@ use Rattle.clearing.specs.Lawful.{view}
 use Rattle.clearing.proofs.Fits.{PricedRanges, priced_ranges}
 use Rattle.clearing.proofs.Held.{no_package, package_held}
 use Rattle.clearing.proofs.Ranged.{ranged_docket}
+use Rattle.bounds.specs.Blocks.{span}
 use Rattle.bounds.specs.Costs.{least_cost, least_first, counted_none, counted_all, counted_free, counted-fixed}
 use Rattle.bounds.proofs.all_in.least_cost.Goals as goal
 use Rattle.bounds.proofs.all_in.least_cost.Goals.{then-i-block, else-i-block+then-digits-eq1, else-i-block+else-digits-eq1}
@@ -18,7 +19,7 @@ turn d items i held inside =
     (priced_ranges (get_or items i no_package) (package_held d i items held inside), omega (arith, ap length held, (ranged_docket d).few_packages))
 
 pub loop-i-init : goal.loop-i-init
-loop-i-init c = counted_none c.args.block c.deref-package-items.result.now
+loop-i-init c = counted_none (span c.args.block) c.deref-package-items.result.now
 
 pub overflow_add-cost : goal.overflow_add-cost
 overflow_add-cost c =
@@ -32,7 +33,7 @@ overflow_add-cost-then-digits-eq1 c =
 
 pub loop-i-preserved : goal.loop-i-preserved
 loop-i-preserved c =
-    let b = c.args.block in
+    let b = span c.args.block in
     let items = c.deref-package-items.result.now in
     let now = c.loop-i in
     let inside = c.loop-i-test.true in
@@ -54,14 +55,14 @@ loop-i-preserved c =
 pub returns : goal.returns
 returns c =
     let d = c.args.docket.now in
-    let b = c.args.block in
+    let b = span c.args.block in
     let items = c.deref-package-items.ensures in
     let few = (ranged_docket d).few_packages in
     record {
-      value =
+      value = λ block.
           counted_all b c.deref-package-items.result.now c.loop-i.i _ c.loop-i.digits c.loop-i-test.false c.loop-i.invariant
           ∙ ap (least_cost b.free b.first) items.value
-          ∙ least_first (view d) b c.requires;
+          ∙ least_first (view d) b block;
       low = omega (arith, ints, items.len, few);
       high = omega (arith, ints, items.len, few);
     }

@@ -2,10 +2,8 @@
 use Rattle.std.proofs.Common.{Some, vec_items, sym, refl, ap, ◌∙◌, subst, arith}
 use Rattle.std.proofs.lemmas.Int.{ints}
 use Rattle.clearing.specs.Lawful.{view, paid, filled_sales}
-use Rattle.clearing.proofs.Ranged.{ranged_docket}
 use Rattle.clearing.proofs.Ruled.{income-is}
 use Rattle.clearing.proofs.Sellings.{Sold, sold_in_all}
-use Rattle.bounds.specs.Parts.{few_digits}
 use Rattle.bounds.proofs.all_in.AllInBoundingRule.consult.Goals as goal
 
 pub overflow_cast-result : goal.overflow_cast-result
@@ -18,11 +16,6 @@ overflow_sub-result c =
     let sold = subst Sold (sym c.sell-sales.ensures) (sold_in_all c.of-all.result.supply c.args.docket.now) in
     omega (arith, ints, sold.income, c.least_cost.ensures.low, c.least_cost.ensures.high)
 
-pub last-requires : goal.last-requires
-last-requires c =
-    let few = few_digits (view c.args.docket.now) c.args.block (ranged_docket c.args.docket.now) c.requires in
-    record { first = few.0; free = few.1 }
-
 pub returns : goal.returns
 returns c =
     let d = c.args.docket.now in
@@ -32,6 +25,6 @@ returns c =
     ∙ ap (λ choice. paid (vec_items d.bands) (filled_sales (view d) choice)) c.last.ensures in
     let costs = c.least_cost.ensures in
     record {
-      answer = ap Some (omega (arith, ints, income, sold.income, costs.value, costs.low, costs.high));
+      answer = λ block. ap Some (omega (arith, ints, income, sold.income, costs.value block, costs.low, costs.high));
       same = refl;
     }

@@ -9,28 +9,26 @@ use Rattle.clearing.specs.Kept.{PairsKept, ExclusionsKept, ZonesKept}
 use Rattle.clearing.specs.Lawful.{View, view}
 use Rattle.clearing.specs.Tallies.{tally_of}
 use Rattle.clearing.proofs.Judged.{pairs-tested, groups_tested, zones-tested}
-use Rattle.clearing.proofs.Ranged.{ranged_docket}
-use Rattle.bounds.specs.declared.blocks.Block.{Block}
+use Rattle.bounds.specs.Blocks.{Span, span}
 use Rattle.bounds.specs.Rules.{last_of, fixed, possible, ceiling}
-use Rattle.bounds.specs.Parts.{few_digits}
 use Rattle.bounds.proofs.limits.LimitsBoundingRule.consult.Goals as goal
 use Rattle.bounds.proofs.limits.LimitsBoundingRule.consult.Goals.{else-pairs_kept-via-then-pairs_kept+then-exclusions_kept+else-zones_kept, else-pairs_kept-via-then-pairs_kept+else-exclusions_kept, else-pairs_kept-via-else-pairs_kept}
 
 -- the tests of a block
-abbrev pairs_test : View → Block → Bool
+abbrev pairs_test : View → Span → Bool
 pairs_test v b = pairs_met v.pairs (fixed v b) (possible v b)
 
-abbrev groups_test : View → Block → Bool
+abbrev groups_test : View → Span → Bool
 groups_test v b = groups_apart v.exclusions (fixed v b)
 
-abbrev zones_test : View → Block → Bool
+abbrev zones_test : View → Span → Bool
 zones_test v b = zones_within v.limits (fixed v b)
 
 -- all of them
-abbrev tested : View → Block → Bool
+abbrev tested : View → Span → Bool
 tested v b = pairs_test v b && (groups_test v b && zones_test v b)
 
-module _ (d : Docket) (b : Block) (t : Tally) (counted : t ≡ tally_of (fixed (view d) b)) (r s : Bool) (says : r ≡ s) where
+module _ (d : Docket) (b : Span) (t : Tally) (counted : t ≡ tally_of (fixed (view d) b)) (r s : Bool) (says : r ≡ s) where
   -- the test of pairs says the same of the packages
   pairs_say : (last : ℕ) (w : Tally) → w ≡ tally_of (taken (vec_items d.packages) last) → last ≡ last_of b
       → Decides r (PairsKept (vec_items d.pairs) t.takes w.takes) → pairs_test (view d) b ≡ s
@@ -46,25 +44,20 @@ module _ (d : Docket) (b : Block) (t : Tally) (counted : t ≡ tally_of (fixed (
   zones_say : Decides r (ZonesKept (vec_items d.limits) t.nameplate t.export) → zones_test (view d) b ≡ s
   zones_say decides = sym (zones-tested (fixed (view d) b) t counted r (vec_items d.limits) d.limits_fit decides) ∙ says
 
-pub last-requires : goal.last-requires
-last-requires c =
-    let few = few_digits (view c.args.docket.now) c.args.block (ranged_docket c.args.docket.now) c.requires in
-    record { first = few.0; free = few.1 }
-
 pub returns-then-zones_kept : goal.returns-then-zones_kept
 returns-then-zones_kept c =
     let d = c.args.docket.now in
-    let b = c.args.block in
+    let b = span c.args.block in
     let t = c.of-taken.result in
     let pairs = pairs_say d b t c.of-taken.ensures c.pairs_kept.result true c.if-pairs_kept.true c.last.result c.of-possible.result c.of-possible.ensures c.last.ensures c.pairs_kept.ensures in
     let groups = groups_say d b t c.of-taken.ensures c.exclusions_kept.result true c.if-exclusions_kept.true c.exclusions_kept.ensures in
     let zones = zones_say d b t c.of-taken.ensures c.zones_kept.result true c.if-zones_kept.true c.zones_kept.ensures in
-    record { answer = sym (cond-true (tested (view d) b) (Some ceiling) None (and_from _ _ pairs (and_from _ _ groups zones))); same = refl }
+    record { answer = λ _. sym (cond-true (tested (view d) b) (Some ceiling) None (and_from _ _ pairs (and_from _ _ groups zones))); same = refl }
 
 pub returns-else-pairs_kept : goal.returns-else-pairs_kept
 returns-else-pairs_kept c =
     let d = c.args.docket.now in
-    let b = c.args.block in
+    let b = span c.args.block in
     let t = c.of-taken.result in
     let fails : tested (view d) b ≡ false =
     elim c.else-pairs_kept.branch [
@@ -75,4 +68,4 @@ returns-else-pairs_kept c =
       | else-pairs_kept-via-else-pairs_kept w ↦
           and_left _ _ (pairs_say d b t c.of-taken.ensures c.pairs_kept.result false w.if-pairs_kept.false c.last.result c.of-possible.result c.of-possible.ensures c.last.ensures c.pairs_kept.ensures)
     ] in
-    record { answer = sym (cond-false (tested (view d) b) (Some ceiling) None fails); same = refl }
+    record { answer = λ _. sym (cond-false (tested (view d) b) (Some ceiling) None fails); same = refl }
