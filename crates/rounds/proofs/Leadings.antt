@@ -13,10 +13,8 @@ use Rattle.clearing.specs.Tallies.{row}
 use Rattle.clearing.proofs.Filling.{filled_small, filled_within}
 use Rattle.clearing.proofs.FillingSums.{all_of}
 use Rattle.clearing.proofs.Ranged.{Ranged, filled-most}
-use Rattle.bounds.specs.declared.blocks.Block.{Block}
-use Rattle.bounds.specs.Blocks.{Answers, InDocket, InBlock, Claims}
-use Rattle.rounds.specs.declared.positions.Position.{Position}
-use Rattle.rounds.specs.Search.{Placed, Leads, start, next_block, hopeless, settle, lead, step, finished, steps}
+use Rattle.bounds.specs.Blocks.{Span, Answers, InDocket, InBlock, Claims}
+use Rattle.rounds.specs.Search.{Standing, Placed, Leads, start, next_block, hopeless, settle, lead, step, finished, steps}
 use Rattle.rounds.proofs.Placings.{step_cases, steps_keep}
 
 -- choice 0 takes nothing
@@ -49,7 +47,7 @@ none_lawful v sales within none = record {
 }
 
 -- so many choices more are settled under the same leader if none of them is worth more
-stay_leads : (v : View) (at : Position) (more : ℕ) → Leads v at
+stay_leads : (v : View) (at : Standing) (more : ℕ) → Leads v at
     → ((other : ℕ) (sales : List ℕ) → at.settled ≤ other → other < at.settled + more → Lawful v other sales → surplus v other sales ≤ℤ at.surplus)
     → Leads v (settle at more)
 stay_leads v at more leads none = record {
@@ -88,14 +86,14 @@ not-above : (a c lead worth : ℤ) → a ≤ℤ c → lt_z lead worth ≡ false 
 not-above a c lead worth most e known = grind (arith, ints)
 
 -- no lawful choice of a hopeless block is worth more than the leader
-hopeless-less : (v : View) (b : Block) (answer : Option ℤ) (worth : ℤ) → Claims v b answer → hopeless answer worth ≡ true
+hopeless-less : (v : View) (b : Span) (answer : Option ℤ) (worth : ℤ) → Claims v b answer → hopeless answer worth ≡ true
     → (other : ℕ) (sales : List ℕ) → InBlock b other → Lawful v other sales → surplus v other sales ≤ℤ worth
 hopeless-less v b None worth claims e other sales inside lawful = absurd (claims other sales inside lawful)
 hopeless-less v b (Some cap) worth claims e other sales inside lawful =
     up_to (surplus v other sales) cap worth (claims other sales inside lawful) e
 
 -- a search that has settled all has the best choice of all
-pub finished-best : (v : View) (at : Position) → Leads v at → finished v at ≡ true → Best v at.leader
+pub finished-best : (v : View) (at : Standing) → Leads v at → finished v at ≡ true → Best v at.leader
 finished-best v at leads e = subst (λ n. BestBelow v n at.leader) (eqb-true at.settled (choices v) e) leads.best
 
 module _ (v : View) (ranged : Ranged v) where
@@ -121,13 +119,13 @@ module _ (v : View) (ranged : Ranged v) where
   }
 
   -- one choice more is settled under the same leader if it is not worth more
-  one_stays : (at : Position) → Leads v at → ((sales : List ℕ) → Lawful v at.settled sales → surplus v at.settled sales ≤ℤ at.surplus) → Leads v (settle at 1)
+  one_stays : (at : Standing) → Leads v at → ((sales : List ℕ) → Lawful v at.settled sales → surplus v at.settled sales ≤ℤ at.surplus) → Leads v (settle at 1)
   one_stays at leads most =
       stay_leads v at 1 leads
       (λ other sales from to. same_choice v at.settled other sales at.surplus (omega arith) (most sales))
 
   -- one that is lawful and worth more leads, since all before it are worth less
-  one_leads : (at : Position) (worth : ℤ) → Worth v at.settled (Some worth) → Leads v at → lt_z at.surplus worth ≡ true
+  one_leads : (at : Standing) (worth : ℤ) → Worth v at.settled (Some worth) → Leads v at → lt_z at.surplus worth ≡ true
       → Leads v (settle (record { settled = at.settled; free = at.free; leader = at.settled; surplus = worth }) 1)
   one_leads at worth known leads e =
       let less = λ (other : ℕ) (sales : List ℕ) (h : other < at.settled) (lawful : Lawful v other sales).
@@ -151,23 +149,23 @@ module _ (v : View) (ranged : Ranged v) where
       }
 
   -- a choice that is tried leads if it is lawful and worth more
-  try_leads : (at : Position) (worth : Option ℤ) → Worth v at.settled worth → Leads v at → Leads v (settle (lead at worth) 1)
+  try_leads : (at : Standing) (worth : Option ℤ) → Worth v at.settled worth → Leads v at → Leads v (settle (lead at worth) 1)
   try_leads at None never leads = one_stays at leads (λ sales lawful. absurd (never sales lawful))
   try_leads at (Some worth) known leads =
-      cond_both (lt_z at.surplus worth) _ _ (λ (a : Position). Leads v (settle a 1))
+      cond_both (lt_z at.surplus worth) _ _ (λ (a : Standing). Leads v (settle a 1))
       (one_leads at worth known leads)
       (λ e. one_stays at leads (λ sales lawful. not-above _ _ at.surplus worth (filled-most v ranged at.settled sales lawful) e known.1))
 
-  module _ (rule : Answers) (judged : (c : ℕ) → Worth v c (worth_of v c)) (sound : (b : Block) → InDocket v b → Claims v b (rule v b)) where
+  module _ (rule : Answers) (judged : (c : ℕ) → Worth v c (worth_of v c)) (sound : (b : Span) → InDocket v b → Claims v b (rule v b)) where
     -- a hopeless block is settled without a look
-    skip_leads : (at : Position) → Placed v at → at.settled < choices v → Leads v at → hopeless (rule v (next_block at)) at.surplus ≡ true → Leads v (settle at (2 ^ at.free))
+    skip_leads : (at : Standing) → Placed v at → at.settled < choices v → Leads v at → hopeless (rule v (next_block at)) at.surplus ≡ true → Leads v (settle at (2 ^ at.free))
     skip_leads at placed below leads e =
         let b = next_block at in
         stay_leads v at (2 ^ at.free) leads
         (λ other sales from to. hopeless-less v b (rule v b) at.surplus (sound b (placed.block below)) e other sales (record { from = from; below = to }))
 
     -- a step keeps the leader the best
-    pub step-leads : (at : Position) → Placed v at → at.settled < choices v → Leads v at → Leads v (step rule v at)
+    pub step-leads : (at : Standing) → Placed v at → at.settled < choices v → Leads v at → Leads v (step rule v at)
     step-leads at placed below leads =
         step_cases rule v (Leads v) at
         (skip_leads at placed below leads)
@@ -175,5 +173,5 @@ module _ (v : View) (ranged : Ranged v) where
         (λ _. try_leads at (worth_of v at.settled) (judged at.settled) leads)
 
     -- so do any number of steps
-    pub steps-leads : (count : ℕ) (at : Position) → Placed v at → Leads v at → Leads v (steps rule v count at)
+    pub steps-leads : (count : ℕ) (at : Standing) → Placed v at → Leads v at → Leads v (steps rule v count at)
     steps-leads count at placed leads = steps_keep rule v (Leads v) step-leads count at placed leads

@@ -7,18 +7,17 @@ use Rattle.clearing.specs.Judging.{worth_of}
 use Rattle.clearing.specs.Lawful.{View, choices}
 use Rattle.bounds.specs.Blocks.{Answers}
 use Rattle.bounds.specs.Gains.{divides_less}
-use Rattle.rounds.specs.declared.positions.Position.{Position}
-use Rattle.rounds.specs.Search.{Placed, start, next_block, hopeless, settle, halve, lead, step, finished, steps}
+use Rattle.rounds.specs.Search.{Standing, Placed, start, next_block, hopeless, settle, halve, lead, step, finished, steps}
 use Rattle.rounds.proofs.Zeros.{trailing_divides, divisor_least, trailing_small, power_room, power-smaller}
 
 -- what a search has left to do: the choices to settle, and the halvings of the next block
-abbrev pub left : View → Position → ℕ
+abbrev pub left : View → Standing → ℕ
 left v at = (choices v - at.settled) * 64 + at.free
 
 -- whoever leads, as many are settled
-pub lead_settled : (at : Position) (worth : Option ℤ) → (lead at worth).settled ≡ at.settled
+pub lead_settled : (at : Standing) (worth : Option ℤ) → (lead at worth).settled ≡ at.settled
 lead_settled at None = refl
-lead_settled at (Some worth) = cond_both (lt_z at.surplus worth) _ _ (λ (a : Position). a.settled ≡ at.settled) (λ _. refl) (λ _. refl)
+lead_settled at (Some worth) = cond_both (lt_z at.surplus worth) _ _ (λ (a : Standing). a.settled ≡ at.settled) (λ _. refl) (λ _. refl)
 
 module _ (v : View) where
   -- a search starts placed
@@ -30,7 +29,7 @@ module _ (v : View) where
   }
 
   -- with more choices settled it stays placed, whatever the next block was
-  more_placed : (at : Position) (more : ℕ) → 1 ≤ at.settled → at.settled + more ≤ choices v → Placed v (settle at more)
+  more_placed : (at : Standing) (more : ℕ) → 1 ≤ at.settled → at.settled + more ≤ choices v → Placed v (settle at more)
   more_placed at more some most = record {
     some = omega arith;
     most = most;
@@ -44,23 +43,23 @@ module _ (v : View) where
   }
 
   -- so it does from where it is placed
-  pub settle-placed : (at : Position) (more : ℕ) → Placed v at → at.settled + more ≤ choices v → Placed v (settle at more)
+  pub settle-placed : (at : Standing) (more : ℕ) → Placed v at → at.settled + more ≤ choices v → Placed v (settle at more)
   settle-placed at more placed most = more_placed at more placed.some most
 
   -- the next block lies within the docket
-  pub block_inside : (at : Position) → Placed v at → at.settled < choices v → at.settled + 2 ^ at.free ≤ choices v
+  pub block_inside : (at : Standing) → Placed v at → at.settled < choices v → at.settled + 2 ^ at.free ≤ choices v
   block_inside at placed below =
       let b = placed.block below in
       power_room at.settled at.free (length v.packages) b.zeros below b.few
 
   -- and has fewer free digits than the docket, since choice 0 is settled
-  pub block-smaller : (at : Position) → Placed v at → at.settled < choices v → at.free < length v.packages
+  pub block-smaller : (at : Standing) → Placed v at → at.settled < choices v → at.free < length v.packages
   block-smaller at placed below =
       let least = divisor_least at.settled (2 ^ at.free) placed.some (placed.block below).zeros in
       power-smaller at.free (length v.packages) at.settled least below
 
   -- with the block halved it stays placed
-  halve-placed : (at : Position) → Placed v at → 0 < at.free → Placed v (halve at)
+  halve-placed : (at : Standing) → Placed v at → 0 < at.free → Placed v (halve at)
   halve-placed at placed some = record {
     some = placed.some;
     most = placed.most;
@@ -70,18 +69,18 @@ module _ (v : View) where
   }
 
   -- a search that has not finished has a choice to settle
-  pub unfinished : (at : Position) → Placed v at → finished v at ≡ false → at.settled < choices v
+  pub unfinished : (at : Standing) → Placed v at → finished v at ≡ false → at.settled < choices v
   unfinished at placed e =
       ⊎_elim (λ (h : at.settled < choices v). h) (λ (h : choices v ≤ at.settled). absurd (eqb-false at.settled (choices v) e (omega (arith, placed.most))))
       (cases_lt at.settled (choices v))
 
   -- and one with a choice to settle has not finished
-  pub not-finished : (at : Position) → at.settled < choices v → finished v at ≡ false
+  pub not-finished : (at : Standing) → at.settled < choices v → finished v at ≡ false
   not-finished at below = ne_eqb at.settled (choices v) (λ e. omega arith)
 
 module _ (rule : Answers) (v : View) where
   -- a step is one of three: the block is skipped if it is hopeless, else halved if it has free digits, else its choice is tried
-  pub step_cases : (P : Position → Type 0) (at : Position)
+  pub step_cases : (P : Standing → Type 0) (at : Standing)
       → (hopeless (rule v (next_block at)) at.surplus ≡ true → P (settle at (2 ^ at.free)))
       → (0 < at.free → P (halve at))
       → (at.free ≡ 0 → P (settle (lead at (worth_of v at.settled)) 1))
@@ -91,11 +90,11 @@ module _ (rule : Answers) (v : View) where
       (λ _. cond_both (ltb 0 at.free) _ _ P (λ e. half (ltb-true 0 at.free e)) (λ e. try (omega (arith, ltb-false 0 at.free e))))
 
   -- a block of one choice that is not hopeless is tried
-  pub step_tries : (at : Position) → hopeless (rule v (next_block at)) at.surplus ≡ false → at.free ≤ 0 → step rule v at ≡ settle (lead at (worth_of v at.settled)) 1
+  pub step_tries : (at : Standing) → hopeless (rule v (next_block at)) at.surplus ≡ false → at.free ≤ 0 → step rule v at ≡ settle (lead at (worth_of v at.settled)) 1
   step_tries at hope one = cond-false _ _ _ hope ∙ cond-false _ _ _ (le-ltb 0 at.free one)
 
   -- a step leaves the search placed
-  pub step-placed : (at : Position) → Placed v at → at.settled < choices v → Placed v (step rule v at)
+  pub step-placed : (at : Standing) → Placed v at → at.settled < choices v → Placed v (step rule v at)
   step-placed at placed below =
       let same = lead_settled at (worth_of v at.settled) in
       step_cases (Placed v) at
@@ -104,8 +103,8 @@ module _ (rule : Answers) (v : View) where
       (λ _. more_placed v (lead at (worth_of v at.settled)) 1 (rw same placed.some) (rw same (omega arith)))
 
   -- what each step keeps, any number of steps keep
-  pub steps_keep : (P : Position → Type 0) → ((at : Position) → Placed v at → at.settled < choices v → P at → P (step rule v at))
-      → (count : ℕ) (at : Position) → Placed v at → P at → P (steps rule v count at)
+  pub steps_keep : (P : Standing → Type 0) → ((at : Standing) → Placed v at → at.settled < choices v → P at → P (step rule v at))
+      → (count : ℕ) (at : Standing) → Placed v at → P at → P (steps rule v count at)
   steps_keep P keeps zero at placed p = p
   steps_keep P keeps (suc count) at placed p =
       cond_both (finished v at) _ _ P (λ _. p)
@@ -114,20 +113,20 @@ module _ (rule : Answers) (v : View) where
       steps_keep P keeps count (step rule v at) (step-placed at placed below) (keeps at placed below p))
 
   -- so the search stays placed
-  pub steps-placed : (count : ℕ) (at : Position) → Placed v at → Placed v (steps rule v count at)
+  pub steps-placed : (count : ℕ) (at : Standing) → Placed v at → Placed v (steps rule v count at)
   steps-placed count at placed = steps_keep (Placed v) (λ a p below _. step-placed a p below) count at placed placed
 
   -- a finished search stays where it is
-  finished-stays : (count : ℕ) (at : Position) → finished v at ≡ true → steps rule v count at ≡ at
+  finished-stays : (count : ℕ) (at : Standing) → finished v at ≡ true → steps rule v count at ≡ at
   finished-stays zero at e = refl
   finished-stays (suc count) at e = cond-true (finished v at) _ _ e
 
   -- any other goes on
-  goes_on : (count : ℕ) (at : Position) → finished v at ≡ false → steps rule v (suc count) at ≡ steps rule v count (step rule v at)
+  goes_on : (count : ℕ) (at : Standing) → finished v at ≡ false → steps rule v (suc count) at ≡ steps rule v count (step rule v at)
   goes_on count at e = cond-false (finished v at) _ _ e
 
   -- one step more is a step from where the others lead
-  pub steps_more : (count : ℕ) (at : Position) → finished v (steps rule v count at) ≡ false → steps rule v (suc count) at ≡ step rule v (steps rule v count at)
+  pub steps_more : (count : ℕ) (at : Standing) → finished v (steps rule v count at) ≡ false → steps rule v (suc count) at ≡ step rule v (steps rule v count at)
   steps_more zero at e = goes_on zero at e
   steps_more (suc count) at e =
       ⊎_elim
@@ -141,7 +140,7 @@ module _ (rule : Answers) (v : View) where
       (cases_Bool (finished v at))
 
   -- once finished, more steps change nothing
-  pub steps_done : (count all : ℕ) (at : Position) → finished v (steps rule v count at) ≡ true → count ≤ all → steps rule v all at ≡ steps rule v count at
+  pub steps_done : (count all : ℕ) (at : Standing) → finished v (steps rule v count at) ≡ true → count ≤ all → steps rule v all at ≡ steps rule v count at
   steps_done zero all at e most = finished-stays all at e
   steps_done (suc count) zero at e most = absurd (omega arith)
   steps_done (suc count) (suc all) at e most =
@@ -155,7 +154,7 @@ module _ (rule : Answers) (v : View) where
       (cases_Bool (finished v at))
 
   -- a step settles some choice, or leaves as many settled and a smaller block
-  step_moves : (at : Position) → (at.settled < (step rule v at).settled) ⊎ (((step rule v at).settled ≡ at.settled) × ((step rule v at).free < at.free))
+  step_moves : (at : Standing) → (at.settled < (step rule v at).settled) ⊎ (((step rule v at).settled ≡ at.settled) × ((step rule v at).free < at.free))
   step_moves at =
       step_cases (λ a. (at.settled < a.settled) ⊎ ((a.settled ≡ at.settled) × (a.free < at.free))) at
       (λ _. inl (omega (arith, pow_pos at.free)))
@@ -163,16 +162,16 @@ module _ (rule : Answers) (v : View) where
       (λ _. inl (omega (arith, lead_settled at (worth_of v at.settled))))
 
   -- no step lowers what is settled
-  step_lasts : (at : Position) → at.settled ≤ (step rule v at).settled
+  step_lasts : (at : Standing) → at.settled ≤ (step rule v at).settled
   step_lasts at = ⊎_elim (λ h. omega arith) (λ h. omega (arith, h.0)) (step_moves at)
 
   -- nor do any number of steps
-  pub steps_last : (count : ℕ) (at : Position) → Placed v at → at.settled ≤ (steps rule v count at).settled
+  pub steps_last : (count : ℕ) (at : Standing) → Placed v at → at.settled ≤ (steps rule v count at).settled
   steps_last count at placed =
       steps_keep (λ a. at.settled ≤ a.settled) (λ a _ _ h. omega (arith, step_lasts a)) count at placed (omega arith)
 
   -- as many steps as a block has free digits, and one, settle some choice
-  pub steps-settle : (count : ℕ) (at : Position) → Placed v at → at.settled < choices v → at.free + 1 ≤ count → at.settled < (steps rule v count at).settled
+  pub steps-settle : (count : ℕ) (at : Standing) → Placed v at → at.settled < choices v → at.free + 1 ≤ count → at.settled < (steps rule v count at).settled
   steps-settle zero at placed below enough = absurd (omega arith)
   steps-settle (suc count) at placed below enough =
       let after = step-placed at placed below in
@@ -183,13 +182,13 @@ module _ (rule : Answers) (v : View) where
       (step_moves at))
 
   -- as many steps as the docket has packages settle some choice
-  pub progress : (at : Position) → Placed v at → at.settled < choices v → at.settled < (steps rule v (length v.packages) at).settled
+  pub progress : (at : Standing) → Placed v at → at.settled < choices v → at.settled < (steps rule v (length v.packages) at).settled
   progress at placed below =
       steps-settle (length v.packages) at placed below (omega (arith, block-smaller v at placed below))
 
 module _ (v : View) (few : length v.packages ≤ 40) where
   -- a block has at most 40 free digits
-  pub free_small : (at : Position) → Placed v at → at.settled < choices v → at.free ≤ 40
+  pub free_small : (at : Standing) → Placed v at → at.settled < choices v → at.free ≤ 40
   free_small at placed below = omega (arith, (placed.block below).few)
 
   -- the zeros of a count of choices are fewer than 64
@@ -198,12 +197,12 @@ module _ (v : View) (few : length v.packages ≤ 40) where
       omega (arith, power-smaller (count_trailing_zeros 64 n) 41 n (trailing_small 64 n some) (omega (arith, pow_mono few)))
 
   -- with more choices settled less is left
-  settle-less : (at : Position) (count : ℕ) → at.settled < count → count ≤ choices v → (choices v - count) * 64 + count_trailing_zeros 64 count < left v at
+  settle-less : (at : Standing) (count : ℕ) → at.settled < count → count ≤ choices v → (choices v - count) * 64 + count_trailing_zeros 64 count < left v at
   settle-less at count more most = omega (arith, zeros-few count (omega arith) most)
 
 module _ (rule : Answers) (v : View) (few : length v.packages ≤ 40) where
   -- a step leaves less
-  pub step_less : (at : Position) → Placed v at → at.settled < choices v → left v (step rule v at) < left v at
+  pub step_less : (at : Standing) → Placed v at → at.settled < choices v → left v (step rule v at) < left v at
   step_less at placed below =
       step_cases rule v (λ a. left v a < left v at) at
       (λ _. settle-less v few at (at.settled + 2 ^ at.free) (omega (arith, pow_pos at.free)) (block_inside v at placed below))
@@ -211,9 +210,14 @@ module _ (rule : Answers) (v : View) (few : length v.packages ≤ 40) where
       (λ _. rw (lead_settled at (worth_of v at.settled)) (settle-less v few at (at.settled + 1) (omega arith) (omega arith)))
 
   -- so do any number of them but none
-  pub steps-less : (count : ℕ) (at : Position) → 0 < count → Placed v at → at.settled < choices v → left v (steps rule v count at) < left v at
+  pub steps-less : (count : ℕ) (at : Standing) → 0 < count → Placed v at → at.settled < choices v → left v (steps rule v count at) < left v at
   steps-less zero at some placed below = absurd (omega arith)
   steps-less (suc count) at some placed below =
       let first = step_less at placed below in
       rw (goes_on rule v count at (not-finished v at below))
       (steps_keep rule v (λ a. left v a < left v at) (λ a p b h. omega (arith, step_less a p b)) count (step rule v at) (step-placed rule v at placed below) first)
+
+-- what is left of the docket's choices falls with what is left of the most that any docket has
+pub left_of_most : (v : View) (at after : Standing) → length v.packages ≤ 40 → Placed v at → Placed v after → left v after < left v at
+    → (2 ^ 41 - after.settled) * 64 + after.free < (2 ^ 41 - at.settled) * 64 + at.free
+left_of_most v at after few placed then less = omega (arith, pow_mono few, placed.most, then.most)

@@ -3,7 +3,7 @@ ghost use Rattle.std.specs.Prelude.{◌≡◌, ◌+◌, ◌^◌, ◌<◌, ◌≤
 ghost use Rattle.clearing.specs.Closing.{ByClosing};
 ghost use Rattle.clearing.specs.Judging.{worth_of};
 ghost use Rattle.clearing.specs.Lawful.{view, choices as choice_count};
-ghost use Rattle.rounds.specs.Search.{Placed, Leads, left, start as beginning, settle as settling, lead as leading, step as stepped, steps as run_of};
+ghost use Rattle.rounds.specs.Search.{Placed, Leads, left, standing, start as beginning, settle as settling, lead as leading, step as stepped, steps as run_of};
 
 use crate::positions::Position;
 use bounds::blocks::{Block, BoundingRule};
@@ -13,7 +13,7 @@ use clearing::lawful::worth;
 impl Position {
     // A search begins with choice 0, which takes nothing, settled and leading.
     pub fn start() -> Position
-        ensures { result ≡ beginning }
+        ensures { standing result ≡ beginning }
     {
         Position {
             settled: 1,
@@ -25,8 +25,9 @@ impl Position {
 
     // So many choices more are settled.
     fn settle(self, more: u64) -> Position
-        requires { self.settled + more ≤ 2 ^ 40 }
-        ensures { result ≡ settling self more }
+        requires some { 0 < self.settled + more }
+        requires most { self.settled + more ≤ 2 ^ 40 }
+        ensures { standing result ≡ settling (standing self) more }
     {
         let settled = self.settled + more;
         Position {
@@ -39,7 +40,7 @@ impl Position {
 
     // The next choice leads if it is lawful and worth more than the leader.
     fn lead(self, docket: &Docket) -> Position
-        ensures { result ≡ leading self (worth_of (view docket.now) self.settled) }
+        ensures { standing result ≡ leading (standing self) (worth_of (view docket.now) self.settled) }
     {
         match worth(docket, self.settled) {
             Some(surplus) if surplus > self.surplus => Position {
@@ -55,9 +56,9 @@ impl Position {
 
 // One step of a search that is not finished.
 fn step<B: BoundingRule>(docket: &Docket, at: Position, rule: &mut B) -> Position
-    requires placed { Placed (view docket.now) at }
+    requires placed { Placed (view docket.now) (standing at) }
     requires unfinished { at.settled < choice_count (view docket.now) }
-    ensures value { result ≡ stepped (B.BoundingRule.answers rule.old) (view docket.now) at }
+    ensures value { standing result ≡ stepped (B.BoundingRule.answers rule.old) (view docket.now) (standing at) }
     ensures falls { left result < left at }
     ensures same_rule { B.BoundingRule.answers rule.new ≡ B.BoundingRule.answers rule.old }
 {
@@ -70,17 +71,17 @@ fn step<B: BoundingRule>(docket: &Docket, at: Position, rule: &mut B) -> Positio
         None => false,
     };
     if !hopeful {
-        at.settle(1u64 << at.free)
-    } else if at.free > 0 {
-        Position {
+        return at.settle(1u64 << at.free);
+    }
+    if at.free > 0 {
+        return Position {
             settled: at.settled,
             free: at.free - 1,
             leader: at.leader,
             surplus: at.surplus,
-        }
-    } else {
-        at.lead(docket).settle(1)
+        };
     }
+    at.lead(docket).settle(1)
 }
 
 // The choices of a docket.
@@ -99,12 +100,12 @@ pub(crate) fn run<B: BoundingRule>(
     rule: &mut B,
     steps: u32,
 ) -> Position
-    requires { Placed (view docket.now) from }
-    ensures value { result ≡ run_of (B.BoundingRule.answers rule.old) (view docket.now) steps from }
+    requires { Placed (view docket.now) (standing from) }
+    ensures value { standing result ≡ run_of (B.BoundingRule.answers rule.old) (view docket.now) steps (standing from) }
     ensures falls { 0 < steps → from.settled < choice_count (view docket.now) → left result < left from }
     ensures settles { from.settled < choice_count (view docket.now) → length (view docket.now).packages ≤ steps → from.settled < result.settled }
-    ensures placed { Placed (view docket.now) result }
-    ensures leads { ByClosing (view docket.now) → Leads (view docket.now) from → Leads (view docket.now) result }
+    ensures placed { Placed (view docket.now) (standing result) }
+    ensures leads { ByClosing (view docket.now) → Leads (view docket.now) (standing from) → Leads (view docket.now) (standing result) }
     ensures same_rule { B.BoundingRule.answers rule.new ≡ B.BoundingRule.answers rule.old }
 {
     let all = choices(docket);

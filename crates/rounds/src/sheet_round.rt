@@ -2,6 +2,7 @@
 ghost use Rattle.std.specs.Prelude.{◌≡◌, true, Ok, Err, MatchResult};
 ghost use Rattle.clearing.specs.Closing.{ByClosing};
 ghost use Rattle.clearing.specs.Lawful.{view};
+ghost use Rattle.rounds.specs.declared.sheet_round.Stop.TheVariants.{Refused, Memory};
 ghost use Rattle.rounds.specs.Clearing.{docket_of, Awards, Cleared, Stopped};
 
 use crate::positions::Position;
@@ -35,18 +36,24 @@ pub enum Stop {
 }
 
 impl From<Refusal> for Stop {
+    ghost from_gives = { λ refusal stop. stop ≡ Refused refusal };
+
     fn from(refusal: Refusal) -> Stop {
         Stop::Refused(refusal)
     }
 }
 
 impl From<AllocError> for Stop {
+    ghost from_gives = { λ _ stop. stop ≡ Memory };
+
     fn from(_e: AllocError) -> Stop {
         Stop::Memory
     }
 }
 
 impl<T: Drop> From<AllocFailed<T>> for Stop {
+    ghost from_gives = { λ _ stop. stop ≡ Memory };
+
     fn from(_e: AllocFailed<T>) -> Stop {
         Stop::Memory
     }

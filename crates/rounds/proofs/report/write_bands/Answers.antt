@@ -15,7 +15,7 @@ loop-sold-init g c = lined_none g.W.Write.write_str_gives band_line c.args.bands
 pub loop-sold-preserved : goal.loop-sold-preserved
 loop-sold-preserved g c =
     lined_more g.W.Write.write_str_gives band_line c.args.bands.now c.args.f.now c.loop-sold.sold-index no_sold c.loop-sold.f c.writeln.new.self
-    c.loop-sold-test.true c.loop-sold.invariant (λ plain. c.in_ok-writeln.ensures.shows plain refl)
+    c.loop-sold-test.true c.loop-sold.invariant (λ plain. c.in_ok-writeln.ensures.writes plain refl)
 
 pub returns : goal.returns
 returns g c plain ok =

@@ -10,7 +10,7 @@ loop-number-init g c = lined_none g.W.Write.write_str_gives package_line c.args.
 pub loop-number-preserved : goal.loop-number-preserved
 loop-number-preserved g c =
     lined_more g.W.Write.write_str_gives package_line c.args.numbers.now c.args.f.now c.loop-number.number-index 0 c.loop-number.f c.writeln.new.self
-    c.loop-number-test.true c.loop-number.invariant (λ plain. c.in_ok-writeln.ensures.shows plain refl)
+    c.loop-number-test.true c.loop-number.invariant (λ plain. c.in_ok-writeln.ensures.writes plain refl)
 
 pub returns : goal.returns
 returns g c plain ok =

@@ -1,24 +1,33 @@
--- `clear_sheet`: the docket is that of the sheet, and the search finishes on it.
-use Rattle.std.proofs.Common.{◌≡◌, Ok, Err, sym, ap, ◌∙◌}
+-- `clear_sheet`: a new docket has nothing open, and the `?`s answer what stopped the calls.
+use Rattle.std.proofs.Common.{◌≡◌, Ok, Err, subst}
 use Rattle.std.proofs.lemmas.Result.{err_from_is_err_and}
-use Rattle.offers.specs.Memory.{held}
-use Rattle.clearing.specs.Lawful.{view}
-use Rattle.rounds.proofs.Cleared.{docket_closed}
+use Rattle.clearing.specs.Lawful.{View, view, nothing_open}
+use Rattle.rounds.specs.Clearing.{docket_of, Awards, Reports, Cleared}
 use Rattle.rounds.proofs.sheet_round.clear_sheet.Goals as goal
 
-pub returns-in_err-close : goal.returns-in_err-close
-returns-in_err-close g c =
-    let docket = docket_closed (view c.args.docket.now) (held c.vacant-offers.result) (held c.catch_up.new.offers) c.args.sheet.now c.vacant-offers.ensures c.in_ok-catch_up.ensures.answer c.catch_up.ensures.after in
-    let p = err_from_is_err_and c.from_residual-in_err-close.result c.from_residual-in_err-close.ensures.1 in
-    record {
-      answer = rw (p.1, p.2) (ap (λ o. o.answer) docket ∙ sym c.in_err-close.ensures.answer);
-      after = c.close.ensures.after ∙ sym (ap (λ o. o.left) docket);
-    }
+pub returns-in_err-docket : goal.returns-in_err-docket
+returns-in_err-docket g c =
+    let p = err_from_is_err_and c.from_residual.result c.from_residual.ensures.1 in rw (p.1, p.2) tt
+
+pub returns-in_err-award : goal.returns-in_err-award
+returns-in_err-award g c =
+    let p = err_from_is_err_and c.from_residual-in_err-award.result c.from_residual-in_err-award.ensures.1 in
+    rw (p.1, p.2)
+    (subst (λ (v : View). (docket_of v c.args.sheet.now).answer ≡ Err c.in_err-award.field-0.0) c.in_ok-docket.ensures c.in_err-award.ensures.answer)
+
+pub returns-in_err-of : goal.returns-in_err-of
+returns-in_err-of g c =
+    let p = err_from_is_err_and c.from_residual-in_err-of.result c.from_residual-in_err-of.ensures.1 in rw (p.1, p.2) tt
 
 pub returns : goal.returns
 returns g c =
-    let docket = docket_closed (view c.args.docket.now) (held c.vacant-offers.result) (held c.catch_up.new.offers) c.args.sheet.now c.vacant-offers.ensures c.in_ok-catch_up.ensures.answer c.catch_up.ensures.after in
+    let sheet = c.args.sheet.now in
+    let award = c.in_ok-award.award in
+    let docket = view c.award_sheet.new.docket in
+    let made = subst (λ (v : View). docket ≡ (docket_of v sheet).left) c.in_ok-docket.ensures c.in_ok-award.ensures.after in
     record {
-      answer = (ap (λ o. o.answer) docket ∙ sym c.in_ok-close.ensures.answer, c.finish.ensures);
-      after = c.close.ensures.after ∙ sym (ap (λ o. o.left) docket);
+      award = award;
+      accepted = subst (λ (v : View). (docket_of v sheet).answer ≡ Ok tt) c.in_ok-docket.ensures c.in_ok-award.ensures.answer.0;
+      awarded = subst (λ (v : View). Awards v award) made c.in_ok-award.ensures.answer.1;
+      reported = subst (λ (v : View). Reports v award c.in_ok-of.field-0) made c.in_ok-of.ensures;
     }

@@ -28,7 +28,7 @@ returns-clause-writes g c plain ok =
     let end = c.writeln-2.new.self in
     let fits : SFits w64 r.surplus = search rules in
     writes_both took start (open_line r) opened (packages ++ (bands ++ surplus_line r.surplus)) end
-    (λ p. c.in_ok-writeln.ensures.shows p (refl {a = true}))
+    (λ p. c.in_ok-writeln.ensures.writes p (refl {a = true}))
     (writes_both took opened packages listed (bands ++ surplus_line r.surplus) end
     (λ p. subst (λ xs. HasWritten took opened (lines_of package_line xs) listed) c.deref.ensures.value (c.in_ok-write_packages.ensures p (refl {a = true})))
     (writes_both took listed bands sold (surplus_line r.surplus) end
