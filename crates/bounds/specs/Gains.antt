@@ -1,20 +1,19 @@
 -- Why one_by_one is sound: what packages add together is no more than what each adds alone.
-use Rattle.std.specs.Prelude.{◌≡◌, ℕ, zero, suc, ◌+◌, ◌-◌, ◌*◌, ◌/◌, ◌%◌, ◌^◌, ◌<◌, ◌≤◌, Bool, true, false, cond, List, [], ◌∷◌, length, get_or, ℤ, pos, ◌+ℤ◌, ◌-ℤ◌, ◌≤ℤ◌, ◌==◌, slice_index_or, refl}
-use Rattle.std.proofs.Common.{sym, ap, subst, ◌∙◌, ⊎_elim, add-zero, zero-add, div-add-mod', arith, pow_mono}
+use Rattle.std.specs.Prelude.{◌≡◌, ℕ, zero, suc, ◌+◌, ◌-◌, ◌*◌, ◌/◌, ◌%◌, ◌^◌, ◌<◌, ◌≤◌, Bool, true, false, cond, List, [], ◌∷◌, length, get_or, ◌+ℤ◌, ◌≤ℤ◌, ◌==◌, slice_index_or}
+use Rattle.std.proofs.Common.{sym, ap, ◌∙◌, ⊎_elim, add-zero, zero-add, div-add-mod', arith, pow_mono}
 use Rattle.std.proofs.Math.Nat.{pow-succ', zero-mod}
 use Rattle.std.proofs.Math.Pow.{mod-mod-pow}
-use Rattle.std.specs.Int.{int_max}
 use Rattle.std.proofs.lemmas.Nat.{pow_pos}
 use Rattle.std.proofs.lemmas.Int.{ints, clamps}
 use Rattle.std.proofs.lemmas.Bool.{cases_lt}
 use Rattle.clearing.specs.declared.dockets.PricedPackage.{PricedPackage}
 use Rattle.clearing.specs.Choices.{taken, total, supplied, supply, cost}
-use Rattle.clearing.specs.Lawful.{View, Lawful, paid, surplus, filled_sales}
+use Rattle.clearing.specs.Lawful.{View}
 use Rattle.clearing.proofs.Diminishing.{paid-added}
 use Rattle.clearing.proofs.Filling.{ranged as ranges_of}
 use Rattle.clearing.proofs.Held.{no_package}
 use Rattle.clearing.proofs.Ranged.{Ranged, filled-most}
-use Rattle.bounds.specs.Blocks.{Span, InDocket, InBlock, Claims}
+use Rattle.bounds.specs.Blocks.{Span, InDocket, Claims}
 use Rattle.bounds.specs.Rules.{unlimited, gains, one_by_one}
 use Rattle.bounds.specs.Parts.{lowest, first_part}
 

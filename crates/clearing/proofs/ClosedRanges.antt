@@ -1,10 +1,9 @@
 -- A docket that a closing makes keeps what every docket keeps.
-use Rattle.std.proofs.Common.{◌≡◌, ℕ, suc, ◌+◌, ◌*◌, ◌<◌, ◌≤◌, Bool, true, leb, List, [], ◌∷◌, map, length, get_or, ℤ, Ok, Err, Result, sym, refl, ap, subst, arith}
+use Rattle.std.proofs.Common.{◌≡◌, ℕ, suc, ◌+◌, ◌*◌, ◌≤◌, Bool, true, List, [], ◌∷◌, map, length, ℤ, Ok, Err, Result, sym, refl, ap, subst, arith}
 use Rattle.std.specs.List.{AllByRecursion as All}
 use Rattle.std.proofs.lemmas.List.{length-map}
 use Rattle.std.proofs.lemmas.Bool.{and_from, le-leb}
-use Rattle.offers.specs.Fields.{within}
-use Rattle.offers.specs.Layouts.{Layout, fault_of}
+use Rattle.offers.specs.Layouts.{Layout}
 use Rattle.offers.specs.Registers.{InRange}
 use Rattle.offers.specs.Memory.{Entries, Sound}
 use Rattle.offers.specs.Tables.{package_layout, band_layout, pair_layout, exclusion_layout, limit_layout}
@@ -17,10 +16,8 @@ use Rattle.offers.specs.declared.refusals.Refusal.{Refusal}
 use Rattle.pricing.specs.Prices.{Bounded}
 use Rattle.pricing.specs.declared.rules.Fault.{Fault}
 use Rattle.clearing.specs.declared.dockets.PricedPackage.{PricedPackage}
-use Rattle.clearing.specs.declared.dockets.OpenBand.{OpenBand}
 use Rattle.clearing.specs.Bands.{Numbered, ahead_of, comes_ahead}
-use Rattle.clearing.specs.Choices.{total, where_so}
-use Rattle.clearing.specs.Closing.{Meaning, open_from, open_records, open_bands, followed_by, priced_as, priced, docket_with, closed_with, closing, ByClosing}
+use Rattle.clearing.specs.Closing.{Meaning, open_from, open_records, open_bands, priced_as, priced, docket_with, closed_with, ByClosing}
 use Rattle.clearing.specs.Lawful.{View, nothing_open}
 use Rattle.clearing.specs.Ranges.{each, fits, package_fits, band_fits}
 use Rattle.clearing.proofs.Fits.{open_fits, within-from, price-from, band_ranges}

@@ -7,7 +7,7 @@ use Rattle.clearing.specs.Bands.{rising, aheads, true_aheads}
 use Rattle.clearing.specs.Choices.{where_so}
 use Rattle.clearing.specs.Lawful.{paid}
 use Rattle.clearing.proofs.Fits.{OpenRanges}
-use Rattle.clearing.proofs.FillingSums.{all_of, over, over_none, over-plus, sold_where, wanted}
+use Rattle.clearing.proofs.FillingSums.{all_of, over, over_none, over-plus, wanted}
 use Rattle.clearing.proofs.FillingOrder.{at_least}
 use Rattle.clearing.proofs.Filling.{paid_all, pay_to, pay_cut, pay_more, pay_nothing, pay_next, pay_none, filled_of, filled-front}
 

@@ -1,5 +1,5 @@
 -- What the tests of a choice decide: the rules of a lawful choice, over its packages and over a tally's rows.
-use Rattle.std.proofs.Common.{◌≡◌, ℕ, zero, suc, ◌*◌, ◌≤◌, Bool, true, false, eqb, leb, List, [], ◌∷◌, ℤ, Some, None, Decides, Option, sym, refl, ap, ◌∙◌, ⊎_elim, arith}
+use Rattle.std.proofs.Common.{◌≡◌, ℕ, zero, suc, ◌*◌, ◌≤◌, Bool, true, false, leb, List, [], ◌∷◌, ℤ, Some, None, Decides, Option, sym, refl, ap, ◌∙◌, ⊎_elim, arith}
 use Rattle.std.specs.List.{AllByRecursion as All}
 use Rattle.std.proofs.lemmas.Bool.{leb-true, le-leb, cases_Bool, both_ways}
 use Rattle.std.proofs.lemmas.Bool.Decides.{same_from_decides, Decides-like, Decides-eqb, Decides-and}
@@ -12,7 +12,7 @@ use Rattle.clearing.specs.declared.dockets.PricedPackage.{PricedPackage}
 use Rattle.clearing.specs.declared.tallies.Tally.{Tally}
 use Rattle.clearing.specs.Choices.{taken, supply, dated, nameplates, exports, has_number}
 use Rattle.clearing.specs.Judging.{implies, pairs_met, groups_apart, zones_within, share_kept, dates_within, passes, worth_of}
-use Rattle.clearing.specs.Lawful.{View, sold, percentage, Lawful, Worth, surplus, filled_sales}
+use Rattle.clearing.specs.Lawful.{View, sold, percentage, Lawful, Worth, filled_sales}
 use Rattle.clearing.specs.Kept.{PairsKept, ExclusionsKept, ZonesKept}
 use Rattle.clearing.specs.Ranges.{each, fits}
 use Rattle.clearing.specs.Tallies.{row, tally_of}

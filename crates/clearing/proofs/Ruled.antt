@@ -1,15 +1,14 @@
 -- The rules over a tally's rows and the sales say the same as those over what a choice takes and the filled sales.
-use Rattle.std.proofs.Common.{◌≡◌, ℕ, ◌+◌, ◌-◌, ◌*◌, ◌≤◌, Bool, true, false, eqb, List, [], ◌∷◌, map, get_or, pos, ◌-ℤ◌, vec_items, sym, refl, ap, ◌∙◌, subst, zero-add, arith, w64, to_z, of_z}
-use Rattle.std.specs.List.{AllByRecursion as All}
+use Rattle.std.proofs.Common.{◌≡◌, ℕ, ◌+◌, ◌-◌, ◌*◌, ◌≤◌, eqb, List, [], ◌∷◌, map, get_or, pos, ◌-ℤ◌, vec_items, refl, ap, ◌∙◌, arith, w64, to_z, of_z}
 use Rattle.std.proofs.lemmas.Int.{ints}
 use Rattle.clearing.specs.declared.dockets.PricedPackage.{PricedPackage}
 use Rattle.clearing.specs.declared.dockets.OpenBand.{OpenBand}
 use Rattle.clearing.specs.declared.dockets.Docket.{Docket}
 use Rattle.clearing.specs.declared.tallies.Tally.{Tally}
 use Rattle.clearing.specs.declared.sales.Sales.{Sales}
-use Rattle.clearing.specs.Choices.{taken, where_so, supply, dated, nameplates, exports, has_number}
+use Rattle.clearing.specs.Choices.{taken, where_so, supply, dated}
 use Rattle.clearing.specs.Kept.{Share, PairsKept, ExclusionsKept, ZonesKept, DatesKept}
-use Rattle.clearing.specs.Lawful.{View, view, WithinQuantities, sold, paid, percentage, Lawful, filled_sales}
+use Rattle.clearing.specs.Lawful.{View, view, sold, paid, percentage, Lawful, filled_sales}
 use Rattle.clearing.specs.Sales.{filled, sold_in, income, sales_of}
 use Rattle.clearing.specs.Tallies.{row, tally_of}
 use Rattle.clearing.proofs.Filling.{filled_small}

@@ -1,5 +1,5 @@
 -- The packages that a choice takes, and what they come to. Assumes nothing.
-use Rattle.std.specs.Prelude.{ℕ, ◌+◌, ◌/◌, ◌%◌, Bool, true, false, cond, ◌&&◌, ◌||◌, List, [], ◌∷◌, ℤ, pos, ◌+ℤ◌, ◌==◌}
+use Rattle.std.specs.Prelude.{ℕ, ◌+◌, ◌/◌, ◌%◌, Bool, false, cond, ◌&&◌, ◌||◌, List, [], ◌∷◌, ℤ, pos, ◌+ℤ◌, ◌==◌}
 use Rattle.offers.specs.declared.records.Package.{Package}
 use Rattle.clearing.specs.declared.dockets.PricedPackage.{PricedPackage}
 

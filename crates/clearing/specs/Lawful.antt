@@ -1,5 +1,5 @@
 -- What a lawful choice is, what it is worth, and which is best. Nothing here searches. Assumes nothing.
-use Rattle.std.specs.Prelude.{◌≡◌, ℕ, ◌+◌, ◌*◌, ◌^◌, ◌<◌, ◌≤◌, min, Bool, true, false, cond, ◌&&◌, List, [], ◌∷◌, map, length, ℤ, pos, ◌-ℤ◌, ◌≤ℤ◌, Some, None, vec_items, Option, ◌==◌}
+use Rattle.std.specs.Prelude.{◌≡◌, ℕ, ◌+◌, ◌*◌, ◌^◌, ◌<◌, ◌≤◌, min, true, cond, ◌&&◌, List, [], ◌∷◌, map, length, ℤ, pos, ◌-ℤ◌, ◌≤ℤ◌, Some, None, vec_items, Option, ◌==◌}
 use Rattle.std.specs.List.{AllByRecursion as All}
 use Rattle.offers.specs.declared.records.Pair.{Pair}
 use Rattle.offers.specs.declared.records.Exclusion.{Exclusion}
@@ -7,7 +7,7 @@ use Rattle.offers.specs.declared.records.Limit.{Limit}
 use Rattle.clearing.specs.declared.dockets.PricedPackage.{PricedPackage}
 use Rattle.clearing.specs.declared.dockets.OpenBand.{OpenBand}
 use Rattle.clearing.specs.declared.dockets.Docket.{Docket}
-use Rattle.clearing.specs.Choices.{taken, total, where_so, supply, dated, nameplates, exports, cost, has_number}
+use Rattle.clearing.specs.Choices.{taken, where_so, supply, dated, nameplates, exports, cost, has_number}
 use Rattle.clearing.specs.Sales.{filled}
 use Rattle.clearing.specs.Tallies.{row}
 

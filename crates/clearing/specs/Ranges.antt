@@ -1,5 +1,5 @@
 -- Ranges of what a docket holds, which its arithmetic rests on. Assumes nothing.
-use Rattle.std.specs.Prelude.{ℕ, Bool, true, ◌&&◌, List, [], ◌∷◌, ℤ, pos, negsuc, ◌==◌, int_le, nat_le}
+use Rattle.std.specs.Prelude.{Bool, true, ◌&&◌, List, [], ◌∷◌, ℤ, ◌==◌, int_le, nat_le}
 use Rattle.offers.specs.Fields.{within}
 use Rattle.offers.specs.Layouts.{Layout, fault_of}
 use Rattle.offers.specs.Tables.{package_layout, band_layout}

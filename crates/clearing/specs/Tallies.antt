@@ -1,5 +1,5 @@
 -- What the taken packages come to, set out as the code holds it. Assumes nothing.
-use Rattle.std.specs.Prelude.{◌≡◌, ℕ, zero, suc, ◌+◌, true, List, [], ◌∷◌, set, pos, negsuc, ◌+ℤ◌, ◌≤ℤ◌, nat_le, slice_set}
+use Rattle.std.specs.Prelude.{◌≡◌, ℕ, zero, suc, ◌+◌, true, List, [], ◌∷◌, pos, negsuc, ◌+ℤ◌, ◌≤ℤ◌, nat_le, slice_set}
 use Rattle.clearing.specs.Ranges.{each}
 use Rattle.clearing.specs.declared.dockets.PricedPackage.{PricedPackage}
 use Rattle.clearing.specs.declared.tallies.Tally.{Tally}

@@ -30,11 +30,14 @@ fn refused(code: Code, tag: u8, number: u8, field: u8) -> Result<(), Refusal> {
 #[test]
 fn filing_and_withdrawing(rt: HostRuntime) -> Result<(), Fail> {
     let mut offers = Offers::vacant();
-    assert_eq!(rt; offers.pairs[6], Entry::Vacant);
+    let entry = offers.pairs[6];
+    assert_eq!(rt; entry, Entry::Vacant);
     offers.file(7, Offer::Pair(PAIR))?;
-    assert_eq!(rt; offers.pairs[6], Entry::Open(PAIR));
+    let entry = offers.pairs[6];
+    assert_eq!(rt; entry, Entry::Open(PAIR));
     offers.withdraw(Kind::Pair, 7)?;
-    assert_eq!(rt; offers.pairs[6], Entry::Withdrawn(PAIR));
+    let entry = offers.pairs[6];
+    assert_eq!(rt; entry, Entry::Withdrawn(PAIR));
     Ok(())
 }
 
@@ -103,7 +106,8 @@ fn field_outside(rt: HostRuntime) -> Result<(), Fail> {
         offers.file(64, Offer::Band(band)),
         refused(Code::FieldOutside, 2, 64, 3)
     );
-    assert_eq!(rt; offers.bands[63], Entry::Vacant);
+    let entry = offers.bands[63];
+    assert_eq!(rt; entry, Entry::Vacant);
     Ok(())
 }
 
@@ -115,7 +119,8 @@ fn already_open(rt: HostRuntime) -> Result<(), Fail> {
         offers.file(7, Offer::Pair(OTHER_PAIR)),
         refused(Code::AlreadyOpen, 3, 7, 0)
     );
-    assert_eq!(rt; offers.pairs[6], Entry::Open(PAIR));
+    let entry = offers.pairs[6];
+    assert_eq!(rt; entry, Entry::Open(PAIR));
     Ok(())
 }
 
@@ -132,7 +137,8 @@ fn already_withdrawn(rt: HostRuntime) -> Result<(), Fail> {
         offers.withdraw(Kind::Pair, 7),
         refused(Code::AlreadyWithdrawn, 3, 7, 0)
     );
-    assert_eq!(rt; offers.pairs[6], Entry::Withdrawn(PAIR));
+    let entry = offers.pairs[6];
+    assert_eq!(rt; entry, Entry::Withdrawn(PAIR));
     Ok(())
 }
 
@@ -143,7 +149,8 @@ fn not_filed(rt: HostRuntime) -> Result<(), Fail> {
         offers.withdraw(Kind::Exclusion, 64),
         refused(Code::NotFiled, 4, 64, 0)
     );
-    assert_eq!(rt; offers.exclusions[63], Entry::Vacant);
+    let entry = offers.exclusions[63];
+    assert_eq!(rt; entry, Entry::Vacant);
     Ok(())
 }
 
@@ -168,6 +175,7 @@ fn order_of_checks(rt: HostRuntime) -> Result<(), Fail> {
         offers.file(1, Offer::Exclusion(stray)),
         refused(Code::FieldOutside, 4, 1, 2)
     );
-    assert_eq!(rt; offers.exclusions[0], Entry::Open(member));
+    let entry = offers.exclusions[0];
+    assert_eq!(rt; entry, Entry::Open(member));
     Ok(())
 }

@@ -8,15 +8,20 @@ use offers::refusals::{Code, Refusal};
 use pricing::filed::Filed;
 use pricing::numbers::ZoneNumbers;
 use pricing::place::Place;
+use std::process::Abort;
 use std::test::*;
 
 // What choices of the offers are worth: choice numbers with their surplus in pesos, `None` where it is unlawful.
-fn check_worth(rt: HostRuntime, offers: &Offers, rows: &[(u64, Option<i64>)]) -> Result<(), Fail> {
+fn check_worth<R: Abort + AllocGlobal>(
+    rt: &R,
+    offers: &Offers,
+    rows: &[(u64, Option<i64>)],
+) -> Result<(), Fail> {
     let mut docket = Docket::new(rt.alloc())?;
     docket.close(offers, &mut Filed)?;
     for (choice, surplus) in rows {
-        assert_eq!(worth(&docket, *choice), *surplus);
-        assert_eq!(is_lawful(&docket, *choice), surplus.is_some());
+        assert_eq!(rt; worth(&docket, *choice), *surplus);
+        assert_eq!(rt; is_lawful(&docket, *choice), surplus.is_some());
     }
     Ok(())
 }
@@ -24,7 +29,7 @@ fn check_worth(rt: HostRuntime, offers: &Offers, rows: &[(u64, Option<i64>)]) ->
 #[test]
 fn published_example(rt: HostRuntime) -> Result<(), Fail> {
     check_worth(
-        rt,
+        &rt,
         &four_packages(0, 0)?,
         &[
             (0, Some(0)),
@@ -55,7 +60,7 @@ fn pairs(rt: HostRuntime) -> Result<(), Fail> {
         }),
     )?;
     check_worth(
-        rt,
+        &rt,
         &offers,
         &[
             (4, None),
@@ -92,7 +97,7 @@ fn exclusions(rt: HostRuntime) -> Result<(), Fail> {
         }),
     )?;
     check_worth(
-        rt,
+        &rt,
         &offers,
         &[(5, None), (4, Some(69_500_000)), (14, Some(103_000_000))],
     )
@@ -104,14 +109,14 @@ fn interconnection(rt: HostRuntime) -> Result<(), Fail> {
     let mut offers = four_packages(1, 0)?;
     offers.file(1, limit(1, 1, 50))?;
     offers.file(2, limit(1, 2, 0))?;
-    check_worth(rt, &offers, &[(5, Some(111_500_000)), (13, None)])
+    check_worth(&rt, &offers, &[(5, Some(111_500_000)), (13, None)])
 }
 
 #[test]
 fn interconnection_broken(rt: HostRuntime) -> Result<(), Fail> {
     let mut offers = four_packages(1, 0)?;
     offers.file(1, limit(1, 1, 49))?;
-    check_worth(rt, &offers, &[(5, None), (6, Some(80_500_000))])
+    check_worth(&rt, &offers, &[(5, None), (6, Some(80_500_000))])
 }
 
 // 120,000 and 90,000 MWh against 210,000 MWh.
@@ -119,7 +124,7 @@ fn interconnection_broken(rt: HostRuntime) -> Result<(), Fail> {
 fn export(rt: HostRuntime) -> Result<(), Fail> {
     let mut offers = four_packages(1, 0)?;
     offers.file(1, limit(2, 1, 210_000))?;
-    check_worth(rt, &offers, &[(5, Some(111_500_000)), (13, None)])
+    check_worth(&rt, &offers, &[(5, Some(111_500_000)), (13, None)])
 }
 
 // Package 3 is dated before: 20 MW of the 80 MW that packages 1, 3 and 4 sell, and of the 90 MW of all four.
@@ -129,14 +134,14 @@ fn power_before(rt: HostRuntime) -> Result<(), Fail> {
     offers.file(1, limit(3, 1, 25))?;
     offers.file(2, limit(3, 1, 60))?;
     offers.file(3, limit(3, 2, 0))?;
-    check_worth(rt, &offers, &[(13, Some(123_500_000)), (12, None)])
+    check_worth(&rt, &offers, &[(13, Some(123_500_000)), (12, None)])
 }
 
 #[test]
 fn power_before_broken(rt: HostRuntime) -> Result<(), Fail> {
     let mut offers = four_packages(0, 1)?;
     offers.file(1, limit(3, 1, 24))?;
-    check_worth(rt, &offers, &[(13, None), (15, Some(118_500_000))])
+    check_worth(&rt, &offers, &[(13, None), (15, Some(118_500_000))])
 }
 
 // Package 3 is dated after: 90,000 certificates of 240,000 are 37.5 per cent.
@@ -145,7 +150,7 @@ fn certificates_after(rt: HostRuntime) -> Result<(), Fail> {
     let mut offers = four_packages(0, 2)?;
     offers.file(1, limit(3, 4, 38))?;
     offers.file(2, limit(3, 3, 0))?;
-    check_worth(rt, &offers, &[(13, Some(123_500_000)), (12, None)])
+    check_worth(&rt, &offers, &[(13, Some(123_500_000)), (12, None)])
 }
 
 // Each sort of limit as packages 1, 3 and 4 just keep it and, one less, just break it; all are unqualified, the third is dated.
@@ -183,7 +188,7 @@ fn no_percentage(rt: HostRuntime) -> Result<(), Fail> {
             ..package(0, 0, 1, 0)
         }),
     )?;
-    check_worth(rt, &offers, &[(0, Some(0)), (1, None)])
+    check_worth(&rt, &offers, &[(0, Some(0)), (1, None)])
 }
 
 // The lowest-numbered package without a price refuses the closing.

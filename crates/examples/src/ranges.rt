@@ -1,18 +1,19 @@
 // The fields of each kind at both ends of their ranges, and one past them.
 use offers::records::{Band, Exclusion, Limit, Package, Pair, Record};
+use std::process::Abort;
 use std::test::*;
 
 // Checks a record with one field changed: after each value stands the first field that is then out of range, 0 for none.
 macro_rules! check_fields {
-    ($kind:ident, $record:expr, $($field:ident: $($value:expr => $fault:expr),+;)+) => {
-        check_faults(&[$($(($kind { $field: $value, ..$record }, $fault)),+),+])
+    ($rt:expr, $kind:ident, $record:expr, $($field:ident: $($value:expr => $fault:expr),+;)+) => {
+        check_faults(&$rt, &[$($(($kind { $field: $value, ..$record }, $fault)),+),+])
     };
 }
 
 // Each row is a record and its first field out of range.
-fn check_faults<R: Record>(rows: &[(R, u8)]) -> Result<(), Fail> {
+fn check_faults<R: Record>(rt: &impl Abort, rows: &[(R, u8)]) -> Result<(), Fail> {
     for (row, (record, field)) in rows.iter().enumerate() {
-        assert_eq!(record.fault(), *field, "row {row}");
+        assert_eq!(rt; record.fault(), *field, "row {row}");
     }
     Ok(())
 }
@@ -34,9 +35,9 @@ const PACKAGE: Package = Package {
 };
 
 #[test]
-fn quantities_of_a_package() -> Result<(), Fail> {
+fn quantities_of_a_package(rt: HostRuntime) -> Result<(), Fail> {
     check_fields!(
-        Package, PACKAGE,
+        rt, Package, PACKAGE,
         power: 0 => 0, 10_000 => 0, 10_001 => 2;
         energy: 0 => 0, 10_000_000 => 0, 10_000_001 => 3;
         certificates: 0 => 0, 10_000_000 => 0, 10_000_001 => 4;
@@ -46,9 +47,9 @@ fn quantities_of_a_package() -> Result<(), Fail> {
 }
 
 #[test]
-fn zones_of_a_package() -> Result<(), Fail> {
+fn zones_of_a_package(rt: HostRuntime) -> Result<(), Fail> {
     check_fields!(
-        Package, PACKAGE,
+        rt, Package, PACKAGE,
         power_zone: 0 => 7, 1 => 0, 3 => 0, 4 => 7;
         interconnection_zone: 0 => 8, 1 => 0, 16 => 0, 17 => 8;
         export_zone: 0 => 9, 1 => 0, 16 => 0, 17 => 9;
@@ -57,9 +58,9 @@ fn zones_of_a_package() -> Result<(), Fail> {
 }
 
 #[test]
-fn choices_of_a_package() -> Result<(), Fail> {
+fn choices_of_a_package(rt: HostRuntime) -> Result<(), Fail> {
     check_fields!(
-        Package, PACKAGE,
+        rt, Package, PACKAGE,
         date: 0 => 0, 2 => 0, 3 => 11;
         unqualified: 0 => 0, 1 => 0, 2 => 12;
         dollar: 0 => 0, 1 => 0, 2 => 13;
@@ -67,14 +68,14 @@ fn choices_of_a_package() -> Result<(), Fail> {
 }
 
 #[test]
-fn fields_of_a_band() -> Result<(), Fail> {
+fn fields_of_a_band(rt: HostRuntime) -> Result<(), Fail> {
     let band = Band {
         market: 1,
         quantity: 1,
         price: 0,
     };
     check_fields!(
-        Band, band,
+        rt, Band, band,
         market: 0 => 2, 1 => 0, 5 => 0, 6 => 2;
         quantity: 0 => 3, 1 => 0, 100_000_000 => 0, 100_000_001 => 3;
         price: 0 => 0, 10_000_000 => 0, 10_000_001 => 4;
@@ -82,42 +83,42 @@ fn fields_of_a_band() -> Result<(), Fail> {
 }
 
 #[test]
-fn fields_of_a_pair() -> Result<(), Fail> {
+fn fields_of_a_pair(rt: HostRuntime) -> Result<(), Fail> {
     let pair = Pair {
         dependent: 2,
         needed: 3,
     };
     check_fields!(
-        Pair, pair,
+        rt, Pair, pair,
         dependent: 0 => 2, 1 => 0, 40 => 0, 41 => 2;
         needed: 0 => 3, 1 => 0, 40 => 0, 41 => 3;
     )?;
     // a package that needs itself
-    check_fields!(Pair, pair, dependent: 3 => 3; needed: 2 => 3;)
+    check_fields!(rt, Pair, pair, dependent: 3 => 3; needed: 2 => 3;)
 }
 
 #[test]
-fn fields_of_an_exclusion() -> Result<(), Fail> {
+fn fields_of_an_exclusion(rt: HostRuntime) -> Result<(), Fail> {
     let exclusion = Exclusion {
         group: 1,
         member: 1,
     };
     check_fields!(
-        Exclusion, exclusion,
+        rt, Exclusion, exclusion,
         group: 0 => 2, 1 => 0, 16 => 0, 17 => 2;
         member: 0 => 3, 1 => 0, 40 => 0, 41 => 3;
     )
 }
 
 #[test]
-fn fields_of_a_limit() -> Result<(), Fail> {
+fn fields_of_a_limit(rt: HostRuntime) -> Result<(), Fail> {
     let interconnection = Limit {
         sort: 1,
         zone: 1,
         amount: 0,
     };
     check_fields!(
-        Limit, interconnection,
+        rt, Limit, interconnection,
         sort: 0 => 2, 1 => 0, 3 => 0, 4 => 2;
         zone: 0 => 3, 1 => 0, 16 => 0, 17 => 3;
         amount: 0 => 0, 1_000_000_000 => 0, 1_000_000_001 => 4;
@@ -127,7 +128,7 @@ fn fields_of_a_limit() -> Result<(), Fail> {
         ..interconnection
     };
     check_fields!(
-        Limit, export,
+        rt, Limit, export,
         zone: 0 => 3, 1 => 0, 16 => 0, 17 => 3;
         amount: 0 => 0, 1_000_000_000 => 0, 1_000_000_001 => 4;
     )?;
@@ -136,7 +137,7 @@ fn fields_of_a_limit() -> Result<(), Fail> {
         ..interconnection
     };
     check_fields!(
-        Limit, percentage,
+        rt, Limit, percentage,
         zone: 0 => 3, 1 => 0, 4 => 0, 5 => 3;
         amount: 0 => 0, 100 => 0, 101 => 4;
     )

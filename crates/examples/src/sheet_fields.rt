@@ -96,7 +96,8 @@ fn check_changed(rt: &impl Abort, rows: &[(usize, u8, Refusal)]) -> Result<(), F
         bytes[*at] = *byte;
         let mut offers = Offers::vacant();
         assert_eq!(rt; catch_up(&mut offers, &bytes), Err(*expected));
-        assert_eq!(rt; offers.packages[0], Entry::Vacant);
+        let entry = offers.packages[0];
+        assert_eq!(rt; entry, Entry::Vacant);
     }
     Ok(())
 }
@@ -257,7 +258,8 @@ fn fullest_sheet(rt: HostRuntime) -> Result<(), Fail> {
     assert_eq!(rt; write_sheet(&offers, &mut bytes), Ok(3584));
     let mut other = Offers::vacant();
     catch_up(&mut other, &bytes)?;
-    assert_eq!(rt; other.packages[39], Entry::Withdrawn(PACKAGE));
+    let entry = other.packages[39];
+    assert_eq!(rt; entry, Entry::Withdrawn(PACKAGE));
     let mut again = [0u8; 3584];
     assert_eq!(rt; write_sheet(&other, &mut again), Ok(3584));
     assert!(rt; bytes == again);
@@ -271,8 +273,10 @@ fn an_older_sheet(rt: HostRuntime) -> Result<(), Fail> {
     let mut offers = offered()?;
     offers.withdraw(Kind::Package, 2)?;
     catch_up(&mut offers, &older)?;
-    assert_eq!(rt; offers.packages[0], Entry::Open(PACKAGE));
-    assert_eq!(rt; offers.packages[1], Entry::Withdrawn(PACKAGE));
+    let entry = offers.packages[0];
+    assert_eq!(rt; entry, Entry::Open(PACKAGE));
+    let entry = offers.packages[1];
+    assert_eq!(rt; entry, Entry::Withdrawn(PACKAGE));
     let mut dearer = older;
     dearer[SECOND + 28] = 21;
     assert_eq!(rt;

@@ -7,6 +7,7 @@ use offers::refusals::{Code, Refusal};
 use rounds::report::RefusedSheet;
 use rounds::sheet_round::{Progress, Stop, award_sheet, clear_sheet};
 use sheets::writing::write_sheet;
+use std::process::Abort;
 use std::test::*;
 
 // Wants to know nothing.
@@ -18,14 +19,19 @@ impl Progress for Silent {
 }
 
 // The sheet of these offers has this many bytes, and the award of its round this text.
-fn check_award(rt: HostRuntime, offers: &Offers, length: usize, lines: &str) -> Result<(), Fail> {
+fn check_award<R: Abort + AllocGlobal>(
+    rt: &R,
+    offers: &Offers,
+    length: usize,
+    lines: &str,
+) -> Result<(), Fail> {
     let heap = rt.alloc();
     let mut sheet = [0u8; 256];
-    assert!(length <= 256);
-    assert_eq!(write_sheet(offers, &mut sheet), Ok(length));
+    assert!(rt; length <= 256);
+    assert_eq!(rt; write_sheet(offers, &mut sheet), Ok(length));
     match clear_sheet(heap, &sheet[0..length], &mut Silent) {
         Ok(report) => {
-            assert_eq!(report.to_string(heap)?.as_str(), lines);
+            assert_eq!(rt; report.to_string(heap)?.as_str(), lines);
             Ok(())
         },
         Err(_) => Err(Fail::new("refused")),
@@ -35,12 +41,12 @@ fn check_award(rt: HostRuntime, offers: &Offers, length: usize, lines: &str) -> 
 #[test]
 fn two_packages_and_a_band(rt: HostRuntime) -> Result<(), Fail> {
     let lines = "open 2 choices 4\npackage 1\nband 1 sold 10\nsurplus 30\n";
-    check_award(rt, &two_packages()?, 86, lines)
+    check_award(&rt, &two_packages()?, 86, lines)
 }
 
 #[test]
 fn no_offers(rt: HostRuntime) -> Result<(), Fail> {
-    check_award(rt, &Offers::vacant(), 0, "open 0 choices 1\nsurplus 0\n")
+    check_award(&rt, &Offers::vacant(), 0, "open 0 choices 1\nsurplus 0\n")
 }
 
 #[test]
@@ -48,7 +54,7 @@ fn four_packages_and_six_bands(rt: HostRuntime) -> Result<(), Fail> {
     let lines = "open 4 choices 16\npackage 1\npackage 3\npackage 4\n\
         band 1 sold 50\nband 2 sold 30\nband 3 sold 150000\n\
         band 4 sold 90000\nband 5 sold 150000\nband 6 sold 90000\nsurplus 123500000\n";
-    check_award(rt, &four_packages(0, 0)?, 228, lines)
+    check_award(&rt, &four_packages(0, 0)?, 228, lines)
 }
 
 #[test]
@@ -58,7 +64,7 @@ fn package_3_withdrawn(rt: HostRuntime) -> Result<(), Fail> {
     let lines = "open 3 choices 8\npackage 1\npackage 2\npackage 4\n\
         band 1 sold 50\nband 2 sold 30\nband 3 sold 150000\n\
         band 4 sold 0\nband 5 sold 150000\nband 6 sold 0\nsurplus 87500000\n";
-    check_award(rt, &offers, 228, lines)
+    check_award(&rt, &offers, 228, lines)
 }
 
 fn excluded(member: u8) -> Offer {

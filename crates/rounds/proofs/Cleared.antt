@@ -2,7 +2,6 @@
 use Rattle.std.proofs.Common.{◌≡◌, ℕ, List, Ok, Err, Result, sym, refl, ap, ◌∙◌, subst, arith}
 use Rattle.offers.specs.declared.refusals.Refusal.{Refusal}
 use Rattle.offers.specs.Memory.{Entries, vacant}
-use Rattle.offers.specs.Registers.{Outcome}
 use Rattle.sheets.specs.Reading.{catch_up, catching_up}
 use Rattle.pricing.specs.Prices.{filed_price}
 use Rattle.clearing.specs.Closing.{closing}

@@ -1,5 +1,5 @@
 -- One field of a sheet: its header, the checks that it has to pass, and what it makes of the entries of its kind. Assumes nothing.
-use Rattle.std.specs.Prelude.{ℕ, ◌+◌, ◌-◌, ◌*◌, Bool, true, false, cond, ◌&&◌, ◌||◌, List, [], ◌∷◌, length, take, drop, Some, None, Ok, Err, Option, Result, ◌==◌, nat_le, nat_lt, slice_index, slice_set}
+use Rattle.std.specs.Prelude.{ℕ, ◌+◌, ◌-◌, ◌*◌, Bool, true, cond, ◌&&◌, ◌||◌, List, [], ◌∷◌, length, take, drop, Some, None, Ok, Err, Option, Result, ◌==◌, nat_le, nat_lt, slice_index, slice_set}
 use Rattle.std.specs.Str.{bytes_eq}
 use Rattle.offers.specs.declared.refusals.Code.{Code}
 use Rattle.offers.specs.declared.refusals.Code.TheVariants.{NumberOutside, FieldOutside, CutShort, Strange, NotRising, Clash}

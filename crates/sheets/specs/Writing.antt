@@ -1,5 +1,5 @@
 -- The sheet of a round's entries. Assumes nothing.
-use Rattle.std.specs.Prelude.{ℕ, ◌+◌, ◌/◌, ◌%◌, cond, List, [], ◌∷◌, ◌++◌, length, drop, Ok, Err, Result, nat_le}
+use Rattle.std.specs.Prelude.{ℕ, ◌+◌, cond, List, [], ◌∷◌, ◌++◌, length, drop, Ok, Err, Result, nat_le}
 use Rattle.offers.specs.declared.refusals.Code.TheVariants.{NoRoom}
 use Rattle.offers.specs.declared.refusals.Refusal.{Refusal}
 use Rattle.offers.specs.declared.registers.Entry.{Entry}

@@ -1,14 +1,13 @@
 -- `step`: the next block lies within the docket, and the three ways are those of the definition.
-use Rattle.std.proofs.Common.{◌≡◌, true, false, ℤ, Some, Option, sym, ap, ◌∙◌, arith, pow_mono, w64, SFits, rules}
+use Rattle.std.proofs.Common.{◌≡◌, true, false, ℤ, Some, Option, ap, ◌∙◌, arith, pow_mono}
 use lib.Signed.{lt_z}
 use Rattle.std.proofs.lemmas.Nat.{one_shl}
-use Rattle.std.proofs.lemmas.Int.{ints, to_z-of_z}
-use Rattle.std.proofs.lemmas.Bool.{both_ways}
+use Rattle.std.proofs.lemmas.Int.{ints}
 use Rattle.clearing.specs.Judging.{worth_of}
 use Rattle.clearing.specs.Lawful.{view}
 use Rattle.clearing.proofs.Ranged.{ranged_docket}
-use Rattle.rounds.specs.Search.{standing, next_block, hopeless, settle}
-use Rattle.rounds.proofs.Placings.{lead_settled, block_inside, free_small, step_tries}
+use Rattle.rounds.specs.Search.{standing, hopeless}
+use Rattle.rounds.proofs.Placings.{lead_settled, block_inside, free_small}
 use Rattle.rounds.proofs.search.step.Goals as goal
 use Rattle.rounds.proofs.search.step.Goals.{in-Some, in-None}
 

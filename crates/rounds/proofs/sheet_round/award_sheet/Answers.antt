@@ -1,5 +1,5 @@
 -- `award_sheet`: the docket is that of the sheet, and the search finishes on it.
-use Rattle.std.proofs.Common.{◌≡◌, Ok, Err, sym, ap, ◌∙◌}
+use Rattle.std.proofs.Common.{sym, ap, ◌∙◌}
 use Rattle.std.proofs.lemmas.Result.{err_from_is_err_and}
 use Rattle.offers.specs.Memory.{held}
 use Rattle.clearing.specs.Lawful.{view}

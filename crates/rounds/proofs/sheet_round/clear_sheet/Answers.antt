@@ -1,8 +1,8 @@
 -- `clear_sheet`: a new docket has nothing open, and the `?`s answer what stopped the calls.
 use Rattle.std.proofs.Common.{◌≡◌, Ok, Err, subst}
 use Rattle.std.proofs.lemmas.Result.{err_from_is_err_and}
-use Rattle.clearing.specs.Lawful.{View, view, nothing_open}
-use Rattle.rounds.specs.Clearing.{docket_of, Awards, Reports, Cleared}
+use Rattle.clearing.specs.Lawful.{View, view}
+use Rattle.rounds.specs.Clearing.{docket_of, Awards, Reports}
 use Rattle.rounds.proofs.sheet_round.clear_sheet.Goals as goal
 
 pub returns-in_err-docket : goal.returns-in_err-docket

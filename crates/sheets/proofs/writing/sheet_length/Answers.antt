@@ -1,5 +1,5 @@
 -- `sheet_length`: the lengths of the registers, one after the other; each is an array with an entry for each number.
-use Rattle.std.proofs.Common.{arith, rules}
+use Rattle.std.proofs.Common.{arith}
 use Rattle.offers.specs.Memory.{held}
 use Rattle.sheets.proofs.Puts.{length_sheet}
 use Rattle.offers.proofs.Soundness.{sound-held}

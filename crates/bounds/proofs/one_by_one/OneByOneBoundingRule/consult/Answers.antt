@@ -1,5 +1,5 @@
 -- `consult` of one-by-one: the gains of 40 packages have room in 64 bits, and each turn counts one more.
-use Rattle.std.proofs.Common.{◌≡◌, ℕ, ◌+◌, ◌^◌, ◌<◌, pos, ◌+ℤ◌, ◌-ℤ◌, refl, ap, ◌∙◌, ap₂, add-one, arith, w64, SFits}
+use Rattle.std.proofs.Common.{◌≡◌, ℕ, ◌+◌, ◌^◌, ◌<◌, pos, ◌+ℤ◌, ◌-ℤ◌, refl, ◌∙◌, ap₂, add-one, arith, w64, SFits}
 use Rattle.std.specs.Int.{int_max}
 use Rattle.std.proofs.lemmas.Nat.{one_shl}
 use Rattle.std.proofs.lemmas.Int.{ints, to_z-of_z}

@@ -1,5 +1,5 @@
 -- `close`: what was copied is what a closing makes of the entries.
-use Rattle.std.proofs.Common.{◌≡◌, map, Ok, sym, ap, ◌∙◌, subst, arith}
+use Rattle.std.proofs.Common.{◌≡◌, map, Ok, sym, ap, ◌∙◌, subst}
 use Rattle.offers.specs.Memory.{held}
 use Rattle.offers.proofs.Soundness.{sound-held}
 use Rattle.clearing.specs.Bands.{aheads, true_aheads}
