@@ -1,6 +1,6 @@
 -- A docket that a closing makes keeps what every docket keeps.
 use Rattle.std.proofs.Common.{◌≡◌, ℕ, suc, ◌+◌, ◌*◌, ◌≤◌, Bool, true, List, [], ◌∷◌, map, length, ℤ, Ok, Err, Result, sym, refl, ap, subst, arith}
-use Rattle.std.specs.List.{AllByRecursion as All}
+use Rattle.std.specs.List.{AllByRecursion as Every}
 use Rattle.std.proofs.lemmas.List.{length-map}
 use Rattle.std.proofs.lemmas.Bool.{and_from, le-leb}
 use Rattle.offers.specs.Layouts.{Layout}
@@ -32,7 +32,7 @@ pub record Listed {R : Type 0} (k : Layout R) (most : ℕ) (r : Numbered R) : Ty
   pub high : r.number ≤ most
 
 -- the open records of a register in range are so
-listed : {R : Type 0} (k : Layout R) (most n : ℕ) (es : List (Entry R)) → InRange k es → 1 ≤ n → n + length es ≤ most + 1 → All (Listed k most) (open_from n es)
+listed : {R : Type 0} (k : Layout R) (most n : ℕ) (es : List (Entry R)) → InRange k es → 1 ≤ n → n + length es ≤ most + 1 → Every (Listed k most) (open_from n es)
 listed k most n [] ok low room = tt
 listed k most n (Vacant ∷ es) ok low room = listed k most (n + 1) es (λ i. ok (suc i)) (omega arith) (omega arith)
 listed k most n (Open r ∷ es) ok low room = (
@@ -49,12 +49,12 @@ open_few n (Open r ∷ es) = omega (arith, open_few (n + 1) es)
 open_few n (Withdrawn r ∷ es) = omega (arith, open_few (n + 1) es)
 
 -- what is made of each element passes a test where each element has what the test wants
-each_made : {X Y : Type 0} (P : X → Type 0) (f : X → Y) (test : Y → Bool) → ((x : X) → P x → test (f x) ≡ true) → (xs : List X) → All P xs → each test (map f xs) ≡ true
+each_made : {X Y : Type 0} (P : X → Type 0) (f : X → Y) (test : Y → Bool) → ((x : X) → P x → test (f x) ≡ true) → (xs : List X) → Every P xs → each test (map f xs) ≡ true
 each_made P f test passes [] all = refl
 each_made P f test passes (x ∷ xs) all = and_from (test (f x)) (each test (map f xs)) (passes x all.0) (each_made P f test passes xs all.1)
 
 -- what would be taken ahead of a band is at most the greatest quantity for each band
-ahead-few : (b : Numbered Band) (bs : List (Numbered Band)) → All (Listed band_layout 64) bs → ahead_of bs b ≤ 100000000 * length bs
+ahead-few : (b : Numbered Band) (bs : List (Numbered Band)) → Every (Listed band_layout 64) bs → ahead_of bs b ≤ 100000000 * length bs
 ahead-few b [] all = omega arith
 ahead-few b (a ∷ bs) all =
     let here = where_most (comes_ahead a b) a.of.quantity 100000000 (band_ranges a.of all.0.fit).quantity in
@@ -77,7 +77,7 @@ priced_more p (Ok price) (Ok ps) few here bounded well = (
 priced_more p (Ok price) (Err e) few here bounded well = tt
 priced_more p (Err fault) rest few here bounded well = tt
 
-priced_well : (meaning : Meaning) → ((p : Package) → Bounded (meaning p)) → (ps : List (Numbered Package)) → All (Listed package_layout 40) ps
+priced_well : (meaning : Meaning) → ((p : Package) → Bounded (meaning p)) → (ps : List (Numbered Package)) → Every (Listed package_layout 40) ps
     → PricedWell (length ps) (priced meaning ps)
 priced_well meaning bounded [] all = (refl, omega arith)
 priced_well meaning bounded (p ∷ ps) all =
@@ -92,7 +92,7 @@ accepted_docket all (Err e) v few well made = let z : ◌≡◌ {A = ℕ} 0 1 = 
 
 module _ (all : Entries) (sound : Sound all) where
   -- the open bands of sound entries are in range
-  bands_listed : All (Listed band_layout 64) (open_from 1 all.bands)
+  bands_listed : Every (Listed band_layout 64) (open_from 1 all.bands)
   bands_listed = listed band_layout 64 1 all.bands (sound.in_range kind.Band) (omega arith) (omega (arith, sound.numbered kind.Band))
 
   -- with what stands ahead of them

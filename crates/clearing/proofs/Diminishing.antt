@@ -1,6 +1,6 @@
 -- What a supply adds to a greater one brings no more than what it adds to a smaller one, since later units go to bands of lower prices.
 use Rattle.std.proofs.Common.{◌≡◌, ℕ, zero, suc, ◌+◌, ◌≤◌, min, true, List, arith}
-use Rattle.std.specs.List.{AllByRecursion as All}
+use Rattle.std.specs.List.{AllByRecursion as Every}
 use Rattle.std.proofs.ByRecursion.{All-weaker}
 use Rattle.clearing.specs.declared.dockets.OpenBand.{OpenBand}
 use Rattle.clearing.specs.Bands.{rising, aheads, true_aheads}
@@ -17,11 +17,11 @@ Fewer bs one other more less f = over f bs one + over f bs other ≤ over f bs m
 
 module _ (bs : List OpenBand) (one other more less : List ℕ) where
   -- so it is of nothing
-  fewer_none : (f : OpenBand → ℕ → ℕ) → All (λ b. (s : ℕ) → f b s ≡ 0) bs → Fewer bs one other more less f
+  fewer_none : (f : OpenBand → ℕ → ℕ) → Every (λ b. (s : ℕ) → f b s ≡ 0) bs → Fewer bs one other more less f
   fewer_none f none = omega (arith, over_none f bs one none, over_none f bs other none)
 
   -- and of two such amounts together
-  fewer_plus : (f g h : OpenBand → ℕ → ℕ) → All (λ b. (s : ℕ) → h b s ≡ f b s + g b s) bs
+  fewer_plus : (f g h : OpenBand → ℕ → ℕ) → Every (λ b. (s : ℕ) → h b s ≡ f b s + g b s) bs
       → Fewer bs one other more less f → Fewer bs one other more less g → Fewer bs one other more less h
   fewer_plus f g h both left right =
       omega (arith, over-plus f g h bs one both, over-plus f g h bs other both, over-plus f g h bs more both, over-plus f g h bs less both)
@@ -30,7 +30,7 @@ module _ (bs : List OpenBand) (one other more less : List ℕ) where
 least_more : (x y a w xa ya : ℕ) → xa ≡ x + a → ya ≡ y + a → y ≤ x → min xa w + min y w ≤ min x w + min ya w
 least_more x y a w xa ya more after less = omega arith
 
-module _ (bs : List OpenBand) (rise : rising bs ≡ true) (ahead : aheads bs ≡ true_aheads bs) (ranges : All OpenRanges bs)
+module _ (bs : List OpenBand) (rise : rising bs ≡ true) (ahead : aheads bs ≡ true_aheads bs) (ranges : Every OpenRanges bs)
     (x y a xa ya : ℕ → ℕ) (more : (m : ℕ) → xa m ≡ x m + a m) (after : (m : ℕ) → ya m ≡ y m + a m) (less : (m : ℕ) → y m ≤ x m) where
   -- the sales of the two supplies with what is added to the greater, and without what is added to the smaller, are fewer
   abbrev Added : (OpenBand → ℕ → ℕ) → Type 0

@@ -1,6 +1,6 @@
 -- The filled sales are the sales to take: they are lawful where any are, and no sales bring more.
 use Rattle.std.proofs.Common.{◌≡◌, ℕ, zero, suc, ◌+◌, ◌-◌, ◌*◌, ◌<◌, ◌≤◌, min, true, eqb, leb, List, [], ◌∷◌, map, ap, ◌∙◌, ap₂, ⊎_elim, mul-le-mul_left, arith}
-use Rattle.std.specs.List.{AllByRecursion as All}
+use Rattle.std.specs.List.{AllByRecursion as Every}
 use Rattle.std.proofs.ByRecursion.{All-weaker}
 use Rattle.std.proofs.lemmas.Bool.{and_parts, eqb-true, cases_lt}
 use Rattle.std.proofs.lemmas.Bool.Decides.{nat_tests}
@@ -17,7 +17,7 @@ use Rattle.clearing.proofs.FillingSums.{where_same, times_least, all_of, all_bot
 use Rattle.clearing.proofs.FillingOrder.{at_least, at_least-front, share, front-filled}
 
 -- the fields of bands in range
-pub ranged : (bs : List OpenBand) → each band_fits bs ≡ true → All OpenRanges bs
+pub ranged : (bs : List OpenBand) → each band_fits bs ≡ true → Every OpenRanges bs
 ranged [] ok = tt
 ranged (b ∷ bs) ok =
     let parts = and_parts (band_fits b) (each band_fits bs) ok in
@@ -48,7 +48,7 @@ abbrev pub pay_cut : ℕ → ℕ → OpenBand → ℕ → ℕ
 pay_cut m p b s = where_so (eqb b.«record».market m) (s * min p b.«record».price)
 
 -- all that is paid is paid in the markets up to the fifth
-pub paid_all : (bs : List OpenBand) (ss : List ℕ) → All OpenRanges bs → paid bs ss ≡ over (pay_to 5) bs ss
+pub paid_all : (bs : List OpenBand) (ss : List ℕ) → Every OpenRanges bs → paid bs ss ≡ over (pay_to 5) bs ss
 paid_all [] ss ranges = omega arith
 paid_all (b ∷ bs) [] ranges = omega arith
 paid_all (b ∷ bs) (s ∷ ss) ranges =
@@ -104,11 +104,11 @@ abbrev NoMore : ℕ → List OpenBand → List ℕ → List ℕ → (OpenBand �
 NoMore d bs ss rs f = over f bs ss ≤ d * over f bs rs
 
 -- so it is of nothing
-none_more : (d : ℕ) (bs : List OpenBand) (ss rs : List ℕ) (f : OpenBand → ℕ → ℕ) → All (λ b. (s : ℕ) → f b s ≡ 0) bs → NoMore d bs ss rs f
+none_more : (d : ℕ) (bs : List OpenBand) (ss rs : List ℕ) (f : OpenBand → ℕ → ℕ) → Every (λ b. (s : ℕ) → f b s ≡ 0) bs → NoMore d bs ss rs f
 none_more d bs ss rs f none = omega (arith, over_none f bs ss none)
 
 -- and of two such amounts together
-plus_more : (d : ℕ) (bs : List OpenBand) (ss rs : List ℕ) (f g h : OpenBand → ℕ → ℕ) → All (λ b. (s : ℕ) → h b s ≡ f b s + g b s) bs
+plus_more : (d : ℕ) (bs : List OpenBand) (ss rs : List ℕ) (f g h : OpenBand → ℕ → ℕ) → Every (λ b. (s : ℕ) → h b s ≡ f b s + g b s) bs
     → NoMore d bs ss rs f → NoMore d bs ss rs g → NoMore d bs ss rs h
 plus_more d bs ss rs f g h both left right = rw (over-plus f g h bs ss both, over-plus f g h bs rs both) (omega arith)
 
@@ -116,7 +116,7 @@ plus_more d bs ss rs f g h both left right = rw (over-plus f g h bs ss both, ove
 abbrev pub filled_of : (ℕ → ℕ) → List OpenBand → List ℕ
 filled_of amount bs = map (filled (row amount 1 5)) bs
 
-module _ (bs : List OpenBand) (amount : ℕ → ℕ) (rise : rising bs ≡ true) (ahead : aheads bs ≡ true_aheads bs) (ranges : All OpenRanges bs) where
+module _ (bs : List OpenBand) (amount : ℕ → ℕ) (rise : rising bs ≡ true) (ahead : aheads bs ≡ true_aheads bs) (ranges : Every OpenRanges bs) where
   -- a band is sold its share of the amount for its market
   filled-share : (m : ℕ) (b : OpenBand) → OpenRanges b → b.ahead ≡ ahead_of (map offered bs) (offered b) → b.«record».market ≡ m → filled (row amount 1 5) b ≡ share (amount m) bs b
   filled-share m b r is market =

@@ -1,6 +1,6 @@
 -- The order in which bands are served, and that a supply which fills them in this order fills each front of it.
 use Rattle.std.proofs.Common.{◌≡◌, ℕ, ◌+◌, ◌-◌, ◌<◌, ◌≤◌, min, Bool, true, false, ◌&&◌, eqb, ltb, leb, List, [], ◌∷◌, map, ⊎_elim, arith}
-use Rattle.std.specs.List.{AllByRecursion as All}
+use Rattle.std.specs.List.{AllByRecursion as Every}
 use Rattle.std.proofs.ByRecursion.{All-weaker}
 use Rattle.std.proofs.lemmas.Bool.{and_parts, ltb-true, cases_Bool}
 use Rattle.std.proofs.lemmas.Bool.Decides.{nat_tests}
@@ -49,7 +49,7 @@ served_first : (a b : OpenBand) → a.number < b.number → a.«record».market 
 served_first a b h same behind = grind (arith, nat_tests)
 
 -- rising numbers are all greater than the one before them
-rises-above : (low least : ℕ) (bs : List OpenBand) → least ≤ low → rises_from low (map (λ b. b.number) bs) ≡ true → All (λ b. least < b.number) bs
+rises-above : (low least : ℕ) (bs : List OpenBand) → least ≤ low → rises_from low (map (λ b. b.number) bs) ≡ true → Every (λ b. least < b.number) bs
 rises-above low least [] h e = tt
 rises-above low least (b ∷ bs) h e =
     let parts = and_parts (ltb low b.number) _ e in
@@ -75,7 +75,7 @@ unmoved front behind s q a n first = grind arith
 
 module _ (front : OpenBand → Bool) (ok : Front front) (x : OpenBand) (bs : List OpenBand) where
   -- a front with x in it: what stands ahead of x is sold as without x, the rest as of a supply smaller by what x takes
-  shares_moved : (s : ℕ) → front x ≡ true → All (λ b. x.number < b.number) bs
+  shares_moved : (s : ℕ) → front x ≡ true → Every (λ b. x.number < b.number) bs
       → shares front s (x ∷ bs) bs + shares (λ b. comes b x) (s - x.«record».quantity) bs bs ≡ shares (λ b. comes b x) s bs bs + shares front (s - x.«record».quantity) bs bs
   shares_moved s fx later =
       total-pairs _ _ _ _ bs (All-weaker _ _ (λ b h. moved (front b) (comes x b) (comes b x) s _ _ _ (λ bx. (ok.closed b x bx fx, served_once x b bx)) (λ fb. served_first x b h (ok.one_market x b fx fb))) bs later)

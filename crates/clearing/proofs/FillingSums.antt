@@ -1,6 +1,6 @@
 -- Sums over bands, alone and beside a list of sales.
 use Rattle.std.proofs.Common.{◌≡◌, ℕ, zero, suc, ◌+◌, ◌*◌, ◌<◌, ◌≤◌, min, Bool, true, false, List, [], ◌∷◌, map, get_or, refl, ⊎_elim, add-zero, arith}
-use Rattle.std.specs.List.{AllByRecursion as All}
+use Rattle.std.specs.List.{AllByRecursion as Every}
 use Rattle.std.proofs.lemmas.Bool.{cases_lt}
 use Rattle.clearing.specs.declared.dockets.OpenBand.{OpenBand}
 use Rattle.clearing.specs.Choices.{total, where_so}
@@ -9,17 +9,17 @@ use Rattle.clearing.specs.Tallies.{row}
 
 module _ {X : Type 0} where
   -- what holds of everything holds of each element
-  pub all_of : (P : X → Type 0) → ((x : X) → P x) → (xs : List X) → All P xs
+  pub all_of : (P : X → Type 0) → ((x : X) → P x) → (xs : List X) → Every P xs
   all_of P p [] = tt
   all_of P p (x ∷ xs) = (p x, all_of P p xs)
 
   -- what follows from two facts of each element
-  pub all_both : (P Q R : X → Type 0) → ((x : X) → P x → Q x → R x) → (xs : List X) → All P xs → All Q xs → All R xs
+  pub all_both : (P Q R : X → Type 0) → ((x : X) → P x → Q x → R x) → (xs : List X) → Every P xs → Every Q xs → Every R xs
   all_both P Q R r [] ps qs = tt
   all_both P Q R r (x ∷ xs) ps qs = (r x ps.0 qs.0, all_both P Q R r xs ps.1 qs.1)
 
   -- two maps that give the same list give the same of each element
-  pub all_maps : (f g : X → ℕ) (xs : List X) → map f xs ≡ map g xs → All (λ x. f x ≡ g x) xs
+  pub all_maps : (f g : X → ℕ) (xs : List X) → map f xs ≡ map g xs → Every (λ x. f x ≡ g x) xs
   all_maps f g [] e = tt
   all_maps f g (x ∷ xs) e =
       let here : f x ≡ g x = cc in
@@ -27,12 +27,12 @@ module _ {X : Type 0} where
       (here, all_maps f g xs there)
 
   -- sums of the same amounts are the same
-  pub total-same : (f g : X → ℕ) (xs : List X) → All (λ x. f x ≡ g x) xs → total f xs ≡ total g xs
+  pub total-same : (f g : X → ℕ) (xs : List X) → Every (λ x. f x ≡ g x) xs → total f xs ≡ total g xs
   total-same f g [] same = refl
   total-same f g (x ∷ xs) same = omega (arith, same.0, total-same f g xs same.1)
 
   -- two amounts that together are as much as two others, summed
-  pub total-pairs : (f g h k : X → ℕ) (xs : List X) → All (λ x. f x + g x ≡ h x + k x) xs → total f xs + total g xs ≡ total h xs + total k xs
+  pub total-pairs : (f g h k : X → ℕ) (xs : List X) → Every (λ x. f x + g x ≡ h x + k x) xs → total f xs + total g xs ≡ total h xs + total k xs
   total-pairs f g h k [] same = refl
   total-pairs f g h k (x ∷ xs) same = omega (arith, same.0, total-pairs f g h k xs same.1)
 
@@ -79,13 +79,13 @@ over-map f g [] = refl
 over-map f g (b ∷ bs) = omega (arith, over-map f g bs)
 
 -- the sum of nothing is nothing
-pub over_none : (f : OpenBand → ℕ → ℕ) (bs : List OpenBand) (ss : List ℕ) → All (λ b. (s : ℕ) → f b s ≡ 0) bs → over f bs ss ≡ 0
+pub over_none : (f : OpenBand → ℕ → ℕ) (bs : List OpenBand) (ss : List ℕ) → Every (λ b. (s : ℕ) → f b s ≡ 0) bs → over f bs ss ≡ 0
 over_none f [] ss none = refl
 over_none f (b ∷ bs) [] none = refl
 over_none f (b ∷ bs) (s ∷ ss) none = omega (arith, none.0 s, over_none f bs ss none.1)
 
 -- the sum of what is two amounts together is their two sums together
-pub over-plus : (f g h : OpenBand → ℕ → ℕ) (bs : List OpenBand) (ss : List ℕ) → All (λ b. (s : ℕ) → h b s ≡ f b s + g b s) bs → over h bs ss ≡ over f bs ss + over g bs ss
+pub over-plus : (f g h : OpenBand → ℕ → ℕ) (bs : List OpenBand) (ss : List ℕ) → Every (λ b. (s : ℕ) → h b s ≡ f b s + g b s) bs → over h bs ss ≡ over f bs ss + over g bs ss
 over-plus f g h [] ss parts = refl
 over-plus f g h (b ∷ bs) [] parts = refl
 over-plus f g h (b ∷ bs) (s ∷ ss) parts = omega (arith, parts.0 s, over-plus f g h bs ss parts.1)

@@ -1,7 +1,7 @@
 -- What a test of ranges tells: of each element of a list, and of each field of a record.
 use Rattle.std.proofs.Common.{◌≡◌, ℕ, zero, suc, ◌+◌, ◌<◌, ◌≤◌, Bool, true, false, cond, not, ◌&&◌, eqb, leb, List, [], ◌∷◌, ◌++◌, length, get_or, take, set, ℤ, ◌≤ℤ◌, Decides, refl, subst, ⊎_elim, arith, w64, SFits, to_z, of_z}
 use lib.Signed.{le_z}
-use Rattle.std.specs.List.{AllByRecursion as All}
+use Rattle.std.specs.List.{AllByRecursion as Every}
 use Rattle.std.proofs.ByRecursion.{All-get_or, All-append, All-push, All-set, All-take, Decides-by_and}
 use Rattle.std.proofs.lemmas.List.{get_or_past}
 use Rattle.std.proofs.lemmas.Int.{ints, to_z-of_z}
@@ -24,7 +24,7 @@ use Rattle.clearing.specs.Ranges.{each, fits, price_fits, package_fits, band_fit
 
 module _ {X : Type 0} (f : X → Bool) where
   -- a test passed by every element, as a fact of every element
-  each_all : (xs : List X) → Decides (each f xs) (All (λ x. f x ≡ true) xs)
+  each_all : (xs : List X) → Decides (each f xs) (Every (λ x. f x ≡ true) xs)
   each_all = Decides-by_and f (λ x. f x ≡ true) (each f) (λ x. ((λ e. e), (λ e. e))) refl (λ _ _. refl)
 
   -- the element at a place passes

@@ -1,6 +1,6 @@
 -- What the tests of a choice decide: the rules of a lawful choice, over its packages and over a tally's rows.
 use Rattle.std.proofs.Common.{◌≡◌, ℕ, zero, suc, ◌*◌, ◌≤◌, Bool, true, false, leb, List, [], ◌∷◌, ℤ, Some, None, Decides, Option, sym, refl, ap, ◌∙◌, ⊎_elim, arith}
-use Rattle.std.specs.List.{AllByRecursion as All}
+use Rattle.std.specs.List.{AllByRecursion as Every}
 use Rattle.std.proofs.lemmas.Bool.{leb-true, le-leb, cases_Bool, both_ways}
 use Rattle.std.proofs.lemmas.Bool.Decides.{same_from_decides, Decides-like, Decides-eqb, Decides-and}
 use Rattle.std.proofs.ByRecursion.{Decides-by_and}
@@ -21,7 +21,7 @@ use Rattle.clearing.proofs.Ranged.{Ranged}
 use Rattle.clearing.proofs.RowRules.{all_both, pairs-same, exclusions-same, zones-same}
 
 -- a test of each element decides a rule of each
-pub each_decides : {X : Type 0} (p : X → Bool) (P : X → Type 0) → ((x : X) → Decides (p x) (P x)) → (xs : List X) → Decides (each p xs) (All P xs)
+pub each_decides : {X : Type 0} (p : X → Bool) (P : X → Type 0) → ((x : X) → Decides (p x) (P x)) → (xs : List X) → Decides (each p xs) (Every P xs)
 each_decides p P decides xs = Decides-by_and p P (each p) decides refl (λ _ _. refl) xs
 
 -- a test of what follows decides what follows
@@ -42,12 +42,12 @@ itself b = ((λ e. e), (λ e. e))
 
 -- the rule of pairs
 pub pairs_tell : (pairs : List Pair) (T W : List PricedPackage)
-    → Decides (pairs_met pairs T W) (All (λ p. has_number p.dependent T ≡ true → has_number p.needed W ≡ true) pairs)
+    → Decides (pairs_met pairs T W) (Every (λ p. has_number p.dependent T ≡ true → has_number p.needed W ≡ true) pairs)
 pairs_tell pairs T W = each_decides _ _ (λ p. implies_decides _ _ (itself _) (itself _)) pairs
 
 -- the rule of exclusions
 pub groups_tell : (xs : List Exclusion) (T : List PricedPackage)
-    → Decides (groups_apart xs T) (All (λ e. All (λ f. e.group ≡ f.group → has_number e.member T ≡ true → has_number f.member T ≡ true → e.member ≡ f.member) xs) xs)
+    → Decides (groups_apart xs T) (Every (λ e. Every (λ f. e.group ≡ f.group → has_number e.member T ≡ true → has_number f.member T ≡ true → e.member ≡ f.member) xs) xs)
 groups_tell xs T =
     each_decides _ _ (λ e. each_decides _ _ (λ f.
     let all = implies_decides _ _ (Decides-and _ _ (Decides-eqb e.group f.group) (Decides-and _ _ (itself (has_number e.member T)) (itself (has_number f.member T)))) (Decides-eqb e.member f.member) in
@@ -55,7 +55,7 @@ groups_tell xs T =
 
 -- the limits of zones
 pub zones_tell : (ls : List Limit) (T : List PricedPackage)
-    → Decides (zones_within ls T) (All (λ l. (l.sort ≡ 1 → nameplates l.zone T ≤ l.amount) × (l.sort ≡ 2 → exports l.zone T ≤ l.amount)) ls)
+    → Decides (zones_within ls T) (Every (λ l. (l.sort ≡ 1 → nameplates l.zone T ≤ l.amount) × (l.sort ≡ 2 → exports l.zone T ≤ l.amount)) ls)
 zones_tell ls T =
     each_decides _ _ (λ l. Decides-and _ _
     (implies_decides _ _ (Decides-eqb l.sort 1) (decides_leb (nameplates l.zone T) l.amount))
@@ -98,7 +98,7 @@ share_tells v T sales zone date m = decides_leb (100 * dated date m T) (percenta
 
 -- the percentages of dated supply
 dates_tell : (v : View) (T : List PricedPackage) (sales : List ℕ)
-    → Decides (dates_within v T sales) (All (λ m. Shared v T sales 1 1 m × Shared v T sales 2 2 m) (1 ∷ 2 ∷ 3 ∷ []) × (Shared v T sales 3 1 5 × Shared v T sales 4 2 5))
+    → Decides (dates_within v T sales) (Every (λ m. Shared v T sales 1 1 m × Shared v T sales 2 2 m) (1 ∷ 2 ∷ 3 ∷ []) × (Shared v T sales 3 1 5 × Shared v T sales 4 2 5))
 dates_tell v T sales =
     Decides-and _ _ (each_decides {X = ℕ} _ _ (λ m. Decides-and _ _ (share_tells v T sales 1 1 m) (share_tells v T sales 2 2 m)) (1 ∷ 2 ∷ 3 ∷ []))
     (Decides-and _ _ (share_tells v T sales 3 1 5) (share_tells v T sales 4 2 5))

@@ -1,6 +1,6 @@
 -- The rules over a tally's rows say the same as those over the packages that it counts.
 use Rattle.std.proofs.Common.{◌≡◌, ℕ, ◌-◌, ◌≤◌, Bool, true, false, List, [], ◌∷◌, get_or, sym, ap, ◌∙◌, subst, zero-add, arith}
-use Rattle.std.specs.List.{AllByRecursion as All}
+use Rattle.std.specs.List.{AllByRecursion as Every}
 use Rattle.std.proofs.lemmas.Bool.{and_parts}
 use Rattle.offers.specs.declared.records.Pair.{Pair}
 use Rattle.offers.specs.declared.records.Exclusion.{Exclusion}
@@ -25,7 +25,7 @@ Same P Q = (P → Q) × (Q → P)
 
 -- rules that say the same of each element in range say the same of a list
 each_same : {X : Type 0} (test : X → Bool) (P Q : X → Type 0) → ((x : X) → test x ≡ true → Same (P x) (Q x))
-    → (xs : List X) → each test xs ≡ true → Same (All P xs) (All Q xs)
+    → (xs : List X) → each test xs ≡ true → Same (Every P xs) (Every Q xs)
 each_same test P Q same [] ok = ((λ _. tt), (λ _. tt))
 each_same test P Q same (x ∷ xs) ok =
     let parts = and_parts (test x) (each test xs) ok in
@@ -34,7 +34,7 @@ each_same test P Q same (x ∷ xs) ok =
     ((λ all. (here.0 all.0, rest.0 all.1)), (λ all. (here.1 all.0, rest.1 all.1)))
 
 -- two rules of each element, as one rule after the other
-pub all_both : {X : Type 0} (P Q : X → Type 0) (xs : List X) → Same (All (λ x. P x × Q x) xs) (All P xs × All Q xs)
+pub all_both : {X : Type 0} (P Q : X → Type 0) (xs : List X) → Same (Every (λ x. P x × Q x) xs) (Every P xs × Every Q xs)
 all_both P Q [] = ((λ _. (tt, tt)), (λ _. tt))
 all_both P Q (x ∷ xs) =
     let rest = all_both P Q xs in (
@@ -52,7 +52,7 @@ takes_is T t counted n h =
 module _ (T : List PricedPackage) (t : Tally) (counted : t ≡ tally_of T) where
   -- the rule of pairs says the same over both, the needed packages being among others
   pub pairs-same : (W : List PricedPackage) (w : Tally) → w ≡ tally_of W → (ps : List Pair) → each (fits pair_layout) ps ≡ true
-      → Same (PairsKept ps t.takes w.takes) (All (λ p. has_number p.dependent T ≡ true → has_number p.needed W ≡ true) ps)
+      → Same (PairsKept ps t.takes w.takes) (Every (λ p. has_number p.dependent T ≡ true → has_number p.needed W ≡ true) ps)
   pairs-same W w others ps ok =
       each_same (fits pair_layout) _ _ (λ p e.
       let r = pair_ranges p e in
@@ -62,7 +62,7 @@ module _ (T : List PricedPackage) (t : Tally) (counted : t ≡ tally_of T) where
 
   -- so does the rule of exclusions
   pub exclusions-same : (xs : List Exclusion) → each (fits exclusion_layout) xs ≡ true
-      → Same (ExclusionsKept xs t.takes) (All (λ e. All (λ f. e.group ≡ f.group → has_number e.member T ≡ true → has_number f.member T ≡ true → e.member ≡ f.member) xs) xs)
+      → Same (ExclusionsKept xs t.takes) (Every (λ e. Every (λ f. e.group ≡ f.group → has_number e.member T ≡ true → has_number f.member T ≡ true → e.member ≡ f.member) xs) xs)
   exclusions-same xs ok =
       each_same (fits exclusion_layout) _ _ (λ x e.
       each_same (fits exclusion_layout) _ _ (λ y f.
@@ -73,7 +73,7 @@ module _ (T : List PricedPackage) (t : Tally) (counted : t ≡ tally_of T) where
 
   -- so do the limits of zones
   pub zones-same : (ls : List Limit) → each (fits limit_layout) ls ≡ true
-      → Same (ZonesKept ls t.nameplate t.export) (All (λ l. (l.sort ≡ 1 → nameplates l.zone T ≤ l.amount) × (l.sort ≡ 2 → exports l.zone T ≤ l.amount)) ls)
+      → Same (ZonesKept ls t.nameplate t.export) (Every (λ l. (l.sort ≡ 1 → nameplates l.zone T ≤ l.amount) × (l.sort ≡ 2 → exports l.zone T ≤ l.amount)) ls)
   zones-same ls ok =
       each_same (fits limit_layout) _ _ (λ l e.
       let r = limit_ranges l e in

@@ -1,6 +1,6 @@
 -- What each band is sold by its offer number, one band after another.
 use Rattle.std.proofs.Common.{◌≡◌, ℕ, ◌+◌, ◌-◌, ◌<◌, ◌≤◌, true, cond, eqb, ltb, List, [], ◌∷◌, ◌++◌, map, length, get_or, take, drop, set, sym, ap, ◌∙◌, arith}
-use Rattle.std.specs.List.{AllByRecursion as All}
+use Rattle.std.specs.List.{AllByRecursion as Every}
 use Rattle.std.proofs.lemmas.List.{take-append-drop, drop_more, take_more}
 use Rattle.std.proofs.lemmas.Bool.{and_parts, ltb-true, cond-true, cond-false, eq-eqb, ne_eqb}
 use Rattle.clearing.specs.declared.dockets.OpenBand.{OpenBand}
@@ -11,7 +11,7 @@ use Rattle.clearing.proofs.Rows.{row-set}
 
 -- where numbers rise, each band before another has a smaller number
 rises-before : (low : ℕ) (bs : List OpenBand) (b : OpenBand) (cs : List OpenBand) → rises_from low (map (λ b. b.number) (bs ++ b ∷ cs)) ≡ true
-    → (low < b.number) × All (λ a. a.number < b.number) bs
+    → (low < b.number) × Every (λ a. a.number < b.number) bs
 rises-before low [] b cs e =
     (ltb-true low b.number (and_parts (ltb low b.number) (rises_from b.number (map (λ b. b.number) cs)) e).0, tt)
 rises-before low (a ∷ bs) b cs e =
@@ -21,14 +21,14 @@ rises-before low (a ∷ bs) b cs e =
     (omega (arith, rest.0), (rest.0, rest.1))
 
 -- so of a list at a place
-rises-at : (bs : List OpenBand) (i : ℕ) (d : OpenBand) → i < length bs → rising bs ≡ true → All (λ a. a.number < (get_or bs i d).number) (take i bs)
+rises-at : (bs : List OpenBand) (i : ℕ) (d : OpenBand) → i < length bs → rising bs ≡ true → Every (λ a. a.number < (get_or bs i d).number) (take i bs)
 rises-at bs i d inside e =
     let parts : bs ≡ take i bs ++ get_or bs i d ∷ drop (i + 1) bs = sym (take-append-drop i bs) ∙ ap (λ cs. take i bs ++ cs) (drop_more bs i d inside) in
     (rises-before 0 (take i bs) (get_or bs i d) (drop (i + 1) bs) (ap rising (sym parts) ∙ e)).1
 
 module _ (supply : List ℕ) (b : OpenBand) where
   -- the last band is sold by its number, if those before it have smaller ones
-  last_sale : (bs : List OpenBand) → All (λ a. a.number < b.number) bs → sale_of (bs ++ b ∷ []) supply b.number ≡ filled supply b
+  last_sale : (bs : List OpenBand) → Every (λ a. a.number < b.number) bs → sale_of (bs ++ b ∷ []) supply b.number ≡ filled supply b
   last_sale [] small = cond-true (eqb b.number b.number) _ _ (eq-eqb b.number b.number (omega arith))
   last_sale (a ∷ bs) small =
       cond-false (eqb a.number b.number) _ _ (ne_eqb a.number b.number (λ e. omega (arith, small.0))) ∙ last_sale bs small.1

@@ -1,6 +1,6 @@
 -- A rule tested on one element of a list after another, and what the answer decides.
 use Rattle.std.proofs.Common.{◌≡◌, ℕ, ◌+◌, ◌-◌, ◌*◌, ◌<◌, ◌≤◌, true, false, cond, eqb, List, length, get_or, take, Decides, sym, refl, ◌∙◌, subst, arith}
-use Rattle.std.specs.List.{AllByRecursion as All}
+use Rattle.std.specs.List.{AllByRecursion as Every}
 use Rattle.std.proofs.ByRecursion.{All-get_or}
 use Rattle.std.proofs.lemmas.List.{take_all}
 use Rattle.std.proofs.lemmas.Bool.{false≢true, cond_both, cond-true, cond-false, eq-eqb, eqb-true, ne_eqb}
@@ -16,12 +16,12 @@ decided_false fails = ((λ e. absurd (false≢true e)), (λ holds. absurd (fails
 
 module _ {X : Type 0} (P : X → Type 0) (xs ys : List X) (same : xs ≡ ys) (i : ℕ) where
   -- past the last element all keep the rule
-  pub all_tested : length xs ≤ i → All P (take i xs) → Decides true (All P ys)
-  all_tested past so = decided_true (subst (All P) (take_all i xs past ∙ same) so)
+  pub all_tested : length xs ≤ i → Every P (take i xs) → Decides true (Every P ys)
+  all_tested past so = decided_true (subst (Every P) (take_all i xs past ∙ same) so)
 
   -- one element that does not keep it fails the list
-  pub one_fails : (d : X) → i < length xs → (P (get_or xs i d) → ⊥) → Decides false (All P ys)
-  one_fails d inside fails = decided_false (λ so. fails (All-get_or P xs i d inside (subst (All P) (sym same) so)))
+  pub one_fails : (d : X) → i < length xs → (P (get_or xs i d) → ⊥) → Decides false (Every P ys)
+  one_fails d inside fails = decided_false (λ so. fails (All-get_or P xs i d inside (subst (Every P) (sym same) so)))
 
 module _ (sort nameplate export amount load : ℕ) (is : load ≡ cond (eqb sort 1) nameplate (cond (eqb sort 2) export 0)) where
   -- a load within its limit, by the limit's sort

@@ -1,6 +1,6 @@
 -- The rules of lawfulness as the code tests them, over a tally's rows. Assumes nothing.
 use Rattle.std.specs.Prelude.{◌≡◌, ℕ, ◌-◌, ◌*◌, ◌≤◌, Bool, true, false, List, slice_index, slice_index_or}
-use Rattle.std.specs.List.{AllByRecursion as All}
+use Rattle.std.specs.List.{AllByRecursion as Every}
 use Rattle.offers.specs.declared.records.Pair.{Pair}
 use Rattle.offers.specs.declared.records.Exclusion.{Exclusion}
 use Rattle.offers.specs.declared.records.Limit.{Limit}
@@ -13,17 +13,17 @@ In takes n = slice_index_or takes n false ≡ true
 
 -- each dependent package that is taken has its needed one among those of another row
 abbrev pub PairsKept : List Pair → List Bool → List Bool → Type 0
-PairsKept pairs taken within = All (λ p. In taken p.dependent → In within p.needed) pairs
+PairsKept pairs taken within = Every (λ p. In taken p.dependent → In within p.needed) pairs
 
 -- no two different members of a group are taken
 abbrev pub ExclusionsKept : List Exclusion → List Bool → Type 0
 ExclusionsKept exclusions taken =
-    All (λ e. All (λ f. e.group ≡ f.group → In taken e.member → In taken f.member → e.member ≡ f.member) exclusions) exclusions
+    Every (λ e. Every (λ f. e.group ≡ f.group → In taken e.member → In taken f.member → e.member ≡ f.member) exclusions) exclusions
 
 -- zone z stands at place z - 1 of a row
 abbrev pub ZonesKept : List Limit → List ℕ → List ℕ → Type 0
 ZonesKept limits nameplate export =
-    All (λ l. (l.sort ≡ 1 → slice_index nameplate (l.zone - 1) ≤ l.amount) × (l.sort ≡ 2 → slice_index export (l.zone - 1) ≤ l.amount)) limits
+    Every (λ l. (l.sort ≡ 1 → slice_index nameplate (l.zone - 1) ≤ l.amount) × (l.sort ≡ 2 → slice_index export (l.zone - 1) ≤ l.amount)) limits
 
 -- dated supply of a market, at place m - 1, is at most its percentage of what is sold there
 abbrev pub Share : ℕ → List ℕ → List ℕ → ℕ → Type 0

@@ -1,6 +1,6 @@
 -- What a lawful choice is, what it is worth, and which is best. Nothing here searches. Assumes nothing.
 use Rattle.std.specs.Prelude.{◌≡◌, ℕ, ◌+◌, ◌*◌, ◌^◌, ◌<◌, ◌≤◌, min, true, cond, ◌&&◌, List, [], ◌∷◌, map, length, ℤ, pos, ◌-ℤ◌, ◌≤ℤ◌, Some, None, vec_items, Option, ◌==◌}
-use Rattle.std.specs.List.{AllByRecursion as All}
+use Rattle.std.specs.List.{AllByRecursion as Every}
 use Rattle.offers.specs.declared.records.Pair.{Pair}
 use Rattle.offers.specs.declared.records.Exclusion.{Exclusion}
 use Rattle.offers.specs.declared.records.Limit.{Limit}
@@ -63,13 +63,13 @@ pub record LawfulFor (v : View) (T : List PricedPackage) (sales : List ℕ) : Ty
   -- no market sells more than the taken packages supply to it
   pub within_supply : (m : ℕ) → sold v.bands sales m ≤ supply m T
   -- a taken package that needs another has it taken
-  pub pairs : All (λ p. has_number p.dependent T ≡ true → has_number p.needed T ≡ true) v.pairs
+  pub pairs : Every (λ p. has_number p.dependent T ≡ true → has_number p.needed T ≡ true) v.pairs
   -- no two different packages of a group are taken
-  pub exclusions : All (λ e. All (λ f. e.group ≡ f.group → has_number e.member T ≡ true → has_number f.member T ≡ true → e.member ≡ f.member) v.exclusions) v.exclusions
+  pub exclusions : Every (λ e. Every (λ f. e.group ≡ f.group → has_number e.member T ≡ true → has_number f.member T ≡ true → e.member ≡ f.member) v.exclusions) v.exclusions
   -- unqualified nameplates in a zone stay within its interconnection limits
-  pub interconnection : All (λ l. l.sort ≡ 1 → nameplates l.zone T ≤ l.amount) v.limits
+  pub interconnection : Every (λ l. l.sort ≡ 1 → nameplates l.zone T ≤ l.amount) v.limits
   -- unqualified energy from a zone stays within its export limits
-  pub export : All (λ l. l.sort ≡ 2 → exports l.zone T ≤ l.amount) v.limits
+  pub export : Every (λ l. l.sort ≡ 2 → exports l.zone T ≤ l.amount) v.limits
   -- in each power market, power dated before and after is at most its percentage of the power sold
   pub power_before : (m : ℕ) → 1 ≤ m → m ≤ 3 → 100 * dated 1 m T ≤ percentage v.limits 1 * sold v.bands sales m
   pub power_after : (m : ℕ) → 1 ≤ m → m ≤ 3 → 100 * dated 2 m T ≤ percentage v.limits 2 * sold v.bands sales m
