@@ -4,21 +4,30 @@
 ghost use Rattle.std.specs.Prelude.{◌≤◌, IfOk};
 
 use anyhow::anyhow;
-use rounds::report::RefusedSheet;
-use rounds::sheet_round::{Progress, Stop, clear_sheet};
+use clearing::dockets::Docket;
+use rounds::report::{RefusedSheet, Report};
+use rounds::sheet_round::{Progress, award_sheet};
 use std::io;
 use std::io::Read;
 
 // The most bytes that are read.
 const MOST: usize = 4096;
 
-// Says on standard error how far a search is.
+// Says on standard error how far a search is, at every so many notes.
 #[derive(Drop)]
-struct Meter<'a>(&'a HostRuntime);
+struct Meter<'a> {
+    rt: &'a HostRuntime,
+    notes: u8,
+}
+
+const NOTES: u8 = 16;
 
 impl Progress for Meter<'_> {
     fn note(&mut self, settled: u64, choices: u64, surplus: i64) {
-        let _ = eprintln!(self.0; "settled {settled} of {choices}, surplus {surplus}");
+        self.notes = self.notes.wrapping_add(1) % NOTES;
+        if self.notes == 0 {
+            let _ = eprintln!(self.rt; "settled {settled} of {choices}, surplus {surplus}");
+        }
     }
 }
 
@@ -43,15 +52,19 @@ fn read_all(rt: &HostRuntime, buffer: &mut [u8; MOST]) -> io::Result<usize>
 fn main(rt: HostRuntime) -> anyhow::Result<()> {
     let mut buffer = [0u8; MOST];
     let length = read_all(&rt, &mut buffer)?;
-    match clear_sheet(rt.alloc(), &buffer[0..length], &mut Meter(&rt)) {
-        Ok(report) => {
+    let mut docket = Docket::new(rt.alloc()).map_err(|_| anyhow!("out of memory"))?;
+    let mut meter = Meter { rt: &rt, notes: 0 };
+    match award_sheet(&mut docket, &buffer[0..length], &mut meter) {
+        Ok(award) => {
+            let report = Report::of(rt.alloc(), &docket, award).map_err(|_| anyhow!(
+                "out of memory"
+            ))?;
             rt.print(report)?;
             Ok(())
         }
-        Err(Stop::Refused(refusal)) => {
+        Err(refusal) => {
             rt.print(RefusedSheet(refusal))?;
             Err(anyhow!("the sheet is refused"))
         }
-        Err(Stop::Memory) => Err(anyhow!("out of memory")),
     }
 }

@@ -1,13 +1,12 @@
 -- What the choices of a block take: each all that the first takes, the last all that any takes.
-use Rattle.std.specs.Prelude.{◌≡◌, ℕ, zero, suc, ◌+◌, ◌-◌, ◌*◌, ◌/◌, ◌%◌, ◌^◌, ◌<◌, ◌≤◌, Bool, true, false, cond, ◌⊎◌, List, [], ◌∷◌, length, ◌==◌, refl}
-use Rattle.std.proofs.Common.{sym, ap, ◌∙◌, inl, inr, ⊎_elim, mul_left_comm, div-add-mod', arith, pow_mono}
+use Rattle.std.specs.Prelude.{◌≡◌, ℕ, zero, suc, ◌+◌, ◌-◌, ◌*◌, ◌/◌, ◌%◌, ◌^◌, ◌<◌, ◌≤◌, Bool, true, false, cond, ◌⊎◌, List, [], ◌∷◌, ◌==◌, refl}
+use Rattle.std.proofs.Common.{sym, ap, ◌∙◌, inl, inr, ⊎_elim, mul_left_comm, div-add-mod', arith}
 use Rattle.std.proofs.Math.Nat.{pow-succ'}
 use Rattle.std.proofs.lemmas.Nat.{pow_pos}
 use Rattle.std.proofs.lemmas.Bool.{true≢false, or_cases, or_left, or_right, eqb-true, eq-eqb}
 use Rattle.clearing.specs.declared.dockets.PricedPackage.{PricedPackage}
 use Rattle.clearing.specs.Choices.{taken, total, has_number}
 use Rattle.clearing.specs.Lawful.{View}
-use Rattle.clearing.proofs.Ranged.{Ranged}
 use Rattle.bounds.specs.Blocks.{Span, InDocket, InBlock}
 use Rattle.bounds.specs.Rules.{last_of, fixed, possible}
 
@@ -99,9 +98,3 @@ module _ (v : View) (b : Span) (block : InDocket v b) where
     last_part =
         let some = pow_pos b.free in
         rw (choice_is, last_is) at (taken_part b.free fixed_digits (choice - b.first) (2 ^ b.free - 1) free_digits (omega arith) (inr (omega arith)) v.packages)
-
--- a block of a docket in range has few free digits, and a small first choice
-pub few_digits : (v : View) (b : Span) → Ranged v → InDocket v b → (b.first < 2 ^ 40) × (b.free ≤ 40)
-few_digits v b ranged block =
-    let most : 2 ^ length v.packages ≤ 2 ^ 40 = pow_mono ranged.few_packages in
-    (omega (arith, most, block.below), omega (arith, block.few, ranged.few_packages))

@@ -1,18 +1,14 @@
--- A search stays placed in its docket, each step leaves less to do, and a block's worth of steps settles some choice.
-use Rattle.std.proofs.Common.{◌≡◌, ℕ, zero, suc, ◌+◌, ◌-◌, ◌*◌, ◌^◌, ◌<◌, ◌≤◌, true, false, ltb, ◌⊎◌, length, ℤ, Some, None, Option, sym, refl, ap, ◌∙◌, subst, inl, inr, ⊎_elim, arith, pow_pos, pow_mono}
+-- A search stays placed in its docket, a step skips, halves or tries its next block, and as many steps as there are packages settle some choice.
+use Rattle.std.proofs.Common.{◌≡◌, ℕ, zero, suc, ◌+◌, ◌-◌, ◌^◌, ◌<◌, ◌≤◌, true, false, ltb, ◌⊎◌, length, ℤ, Some, None, Option, sym, refl, ap, ◌∙◌, subst, inl, inr, ⊎_elim, arith, pow_pos}
 use lib.Count.{count_trailing_zeros}
 use lib.Signed.{lt_z}
-use Rattle.std.proofs.lemmas.Bool.{cond_both, cond-true, cond-false, cases_Bool, cases_lt, both_ways, ltb-true, ltb-false, le-ltb, eqb-false, ne_eqb}
+use Rattle.std.proofs.lemmas.Bool.{cond_both, cond-true, cond-false, cases_Bool, cases_lt, both_ways, ltb-true, ltb-false, le-ltb, lt-ltb, eqb-false, ne_eqb}
 use Rattle.clearing.specs.Judging.{worth_of}
 use Rattle.clearing.specs.Lawful.{View, choices}
 use Rattle.bounds.specs.Blocks.{Answers}
 use Rattle.bounds.specs.Gains.{divides_less}
 use Rattle.rounds.specs.Search.{Standing, Placed, start, next_block, hopeless, settle, halve, lead, step, finished, steps}
 use Rattle.rounds.proofs.Zeros.{trailing_divides, divisor_least, trailing_small, power_room, power-smaller}
-
--- what a search has left to do: the choices to settle, and the halvings of the next block
-abbrev pub left : View → Standing → ℕ
-left v at = (choices v - at.settled) * 64 + at.free
 
 -- whoever leads, as many are settled
 pub lead_settled : (at : Standing) (worth : Option ℤ) → (lead at worth).settled ≡ at.settled
@@ -88,6 +84,14 @@ module _ (rule : Answers) (v : View) where
   step_cases P at skip half try =
       cond_both (hopeless (rule v (next_block at)) at.surplus) _ _ P skip
       (λ _. cond_both (ltb 0 at.free) _ _ P (λ e. half (ltb-true 0 at.free e)) (λ e. try (omega (arith, ltb-false 0 at.free e))))
+
+  -- a hopeless block is skipped
+  pub step_skips : (at : Standing) → hopeless (rule v (next_block at)) at.surplus ≡ true → step rule v at ≡ settle at (2 ^ at.free)
+  step_skips at none = cond-true _ _ _ none
+
+  -- another with free digits is halved
+  pub step_halves : (at : Standing) → hopeless (rule v (next_block at)) at.surplus ≡ false → 0 < at.free → step rule v at ≡ halve at
+  step_halves at hope some = cond-false _ _ _ hope ∙ cond-true _ _ _ (lt-ltb 0 at.free some)
 
   -- a block of one choice that is not hopeless is tried
   pub step_tries : (at : Standing) → hopeless (rule v (next_block at)) at.surplus ≡ false → at.free ≤ 0 → step rule v at ≡ settle (lead at (worth_of v at.settled)) 1
@@ -185,39 +189,3 @@ module _ (rule : Answers) (v : View) where
   pub progress : (at : Standing) → Placed v at → at.settled < choices v → at.settled < (steps rule v (length v.packages) at).settled
   progress at placed below =
       steps-settle (length v.packages) at placed below (omega (arith, block-smaller v at placed below))
-
-module _ (v : View) (few : length v.packages ≤ 40) where
-  -- a block has at most 40 free digits
-  pub free_small : (at : Standing) → Placed v at → at.settled < choices v → at.free ≤ 40
-  free_small at placed below = omega (arith, (placed.block below).few)
-
-  -- the zeros of a count of choices are fewer than 64
-  zeros-few : (n : ℕ) → 1 ≤ n → n ≤ choices v → count_trailing_zeros 64 n < 64
-  zeros-few n some most =
-      omega (arith, power-smaller (count_trailing_zeros 64 n) 41 n (trailing_small 64 n some) (omega (arith, pow_mono few)))
-
-  -- with more choices settled less is left
-  settle-less : (at : Standing) (count : ℕ) → at.settled < count → count ≤ choices v → (choices v - count) * 64 + count_trailing_zeros 64 count < left v at
-  settle-less at count more most = omega (arith, zeros-few count (omega arith) most)
-
-module _ (rule : Answers) (v : View) (few : length v.packages ≤ 40) where
-  -- a step leaves less
-  pub step_less : (at : Standing) → Placed v at → at.settled < choices v → left v (step rule v at) < left v at
-  step_less at placed below =
-      step_cases rule v (λ a. left v a < left v at) at
-      (λ _. settle-less v few at (at.settled + 2 ^ at.free) (omega (arith, pow_pos at.free)) (block_inside v at placed below))
-      (λ some. omega arith)
-      (λ _. rw (lead_settled at (worth_of v at.settled)) (settle-less v few at (at.settled + 1) (omega arith) (omega arith)))
-
-  -- so do any number of them but none
-  pub steps-less : (count : ℕ) (at : Standing) → 0 < count → Placed v at → at.settled < choices v → left v (steps rule v count at) < left v at
-  steps-less zero at some placed below = absurd (omega arith)
-  steps-less (suc count) at some placed below =
-      let first = step_less at placed below in
-      rw (goes_on rule v count at (not-finished v at below))
-      (steps_keep rule v (λ a. left v a < left v at) (λ a p b h. omega (arith, step_less a p b)) count (step rule v at) (step-placed rule v at placed below) first)
-
--- what is left of the docket's choices falls with what is left of the most that any docket has
-pub left_of_most : (v : View) (at after : Standing) → length v.packages ≤ 40 → Placed v at → Placed v after → left v after < left v at
-    → (2 ^ 41 - after.settled) * 64 + after.free < (2 ^ 41 - at.settled) * 64 + at.free
-left_of_most v at after few placed then less = omega (arith, pow_mono few, placed.most, then.most)

@@ -1,9 +1,10 @@
 // The search for the best lawful choice: consult the rule on a block, then skip it, halve it or try its one choice.
-ghost use Rattle.std.specs.Prelude.{◌≡◌, ◌+◌, ◌^◌, ◌<◌, ◌≤◌, length};
+ghost use Rattle.std.specs.Prelude.{◌≡◌, ◌+◌, ◌^◌, ◌<◌, ◌≤◌, length, vec_len};
+ghost use Rattle.std.specs.Int.Count.{count_trailing_zeros};
 ghost use Rattle.clearing.specs.Closing.{ByClosing};
 ghost use Rattle.clearing.specs.Judging.{worth_of};
 ghost use Rattle.clearing.specs.Lawful.{view, choices as choice_count};
-ghost use Rattle.rounds.specs.Search.{Placed, Leads, left, standing, start as beginning, settle as settling, lead as leading, step as stepped, steps as run_of};
+ghost use Rattle.rounds.specs.Search.{Placed, Leads, left, standing, start as beginning, settle as settling, halve as halving, lead as leading, step as stepped, steps as run_of};
 
 use crate::positions::Position;
 use bounds::blocks::{Block, BoundingRule};
@@ -25,14 +26,37 @@ impl Position {
 
     // So many choices more are settled.
     fn settle(self, more: u64) -> Position
-        requires some { 0 < self.settled + more }
-        requires most { self.settled + more ≤ 2 ^ 40 }
-        ensures { standing result ≡ settling (standing self) more }
+        requires { self.settled + more ≤ 2 ^ 41 }
+        ensures count { result.settled ≡ self.settled + more }
+        ensures value { 0 < self.settled + more → self.settled + more ≤ 2 ^ 40 → standing result ≡ settling (standing self) more }
     {
         let settled = self.settled + more;
         Position {
             settled,
-            free: settled.trailing_zeros() as u8,
+            free: zero_digits(settled),
+            leader: self.leader,
+            surplus: self.surplus,
+        }
+    }
+
+    // The block is settled.
+    fn skip(self) -> Position
+        requires { self.settled < 2 ^ 40 }
+        ensures falls { left result < left self }
+        ensures value { self.settled + 2 ^ self.free ≤ 2 ^ 40 → standing result ≡ settling (standing self) (2 ^ self.free) }
+    {
+        self.settle(1u64 << self.free)
+    }
+
+    // The first half of the block is next.
+    fn halve(self) -> Position
+        requires { 0 < self.free }
+        ensures falls { left result < left self }
+        ensures value { standing result ≡ halving (standing self) }
+    {
+        Position {
+            settled: self.settled,
+            free: self.free - 1,
             leader: self.leader,
             surplus: self.surplus,
         }
@@ -52,14 +76,30 @@ impl Position {
             _ => self,
         }
     }
+
+    // The one choice of the block leads if it is lawful and worth more than the leader, and it is settled.
+    fn try_choice(self, docket: &Docket) -> Position
+        requires { self.settled < 2 ^ 40 }
+        ensures falls { left result < left self }
+        ensures value { standing result ≡ settling (leading (standing self) (worth_of (view docket.now) self.settled)) 1 }
+    {
+        self.lead(docket).settle(1)
+    }
+}
+
+// The count of zero digits that end a choice number.
+fn zero_digits(number: u64) -> u8
+    ensures few { result ≤ 40 }
+    ensures value { 0 < number → number ≤ 2 ^ 40 → result ≡ count_trailing_zeros 64 number }
+{
+    number.trailing_zeros().min(40) as u8
 }
 
 // One step of a search that is not finished.
 fn step<B: BoundingRule>(docket: &Docket, at: Position, rule: &mut B) -> Position
-    requires placed { Placed (view docket.now) (standing at) }
-    requires unfinished { at.settled < choice_count (view docket.now) }
-    ensures value { standing result ≡ stepped (B.BoundingRule.answers rule.old) (view docket.now) (standing at) }
+    requires { at.settled < 2 ^ 40 }
     ensures falls { left result < left at }
+    ensures value { Placed (view docket.now) (standing at) → at.settled < choice_count (view docket.now) → standing result ≡ stepped (B.BoundingRule.answers rule.old) (view docket.now) (standing at) }
     ensures same_rule { B.BoundingRule.answers rule.new ≡ B.BoundingRule.answers rule.old }
 {
     let block = Block {
@@ -71,22 +111,18 @@ fn step<B: BoundingRule>(docket: &Docket, at: Position, rule: &mut B) -> Positio
         None => false,
     };
     if !hopeful {
-        return at.settle(1u64 << at.free);
+        return at.skip();
     }
     if at.free > 0 {
-        return Position {
-            settled: at.settled,
-            free: at.free - 1,
-            leader: at.leader,
-            surplus: at.surplus,
-        };
+        return at.halve();
     }
-    at.lead(docket).settle(1)
+    at.try_choice(docket)
 }
 
 // The choices of a docket.
 pub(crate) fn choices(docket: &Docket) -> u64
-    ensures value { result ≡ choice_count (view docket.now) }
+    ensures value { result ≡ 2 ^ vec_len docket.now.packages }
+    ensures count { result ≡ choice_count (view docket.now) }
     ensures bound { result ≤ 2 ^ 40 }
 {
     1u64 << docket.packages.len()
@@ -100,18 +136,17 @@ pub(crate) fn run<B: BoundingRule>(
     rule: &mut B,
     steps: u32,
 ) -> Position
-    requires { Placed (view docket.now) (standing from) }
-    ensures value { standing result ≡ run_of (B.BoundingRule.answers rule.old) (view docket.now) steps (standing from) }
-    ensures falls { 0 < steps → from.settled < choice_count (view docket.now) → left result < left from }
-    ensures settles { from.settled < choice_count (view docket.now) → length (view docket.now).packages ≤ steps → from.settled < result.settled }
-    ensures placed { Placed (view docket.now) (standing result) }
-    ensures leads { ByClosing (view docket.now) → Leads (view docket.now) (standing from) → Leads (view docket.now) (standing result) }
+    ensures value { Placed (view docket.now) (standing from) → standing result ≡ run_of (B.BoundingRule.answers rule.old) (view docket.now) steps (standing from) }
+    ensures falls { 0 < steps → from.settled < 2 ^ vec_len docket.now.packages → left result < left from }
+    ensures settles { Placed (view docket.now) (standing from) → from.settled < choice_count (view docket.now) → length (view docket.now).packages ≤ steps → from.settled < result.settled }
+    ensures placed { Placed (view docket.now) (standing from) → Placed (view docket.now) (standing result) }
+    ensures leads { Placed (view docket.now) (standing from) → ByClosing (view docket.now) → Leads (view docket.now) (standing from) → Leads (view docket.now) (standing result) }
     ensures same_rule { B.BoundingRule.answers rule.new ≡ B.BoundingRule.answers rule.old }
 {
     let all = choices(docket);
     let mut at = from;
     for _ in 0..steps {
-        if at.settled == all {
+        if at.settled >= all {
             break;
         }
         at = step(docket, at, rule);

@@ -19,12 +19,12 @@ use pricing::filed::Filed;
 use sheets::reading::catch_up;
 use std::alloc::{AllocError, AllocFailed, Global};
 
-// Steps between two notes of progress: some seconds of work.
-const STEPS: u32 = 16_000_000;
+// Steps between two notes of progress.
+const STEPS: u32 = 1_000_000;
 
-// Who wants to know how far a long search is.
+// Who wants to know how far a search is.
 pub trait Progress {
-    // Choices settled of all, and the surplus of the leader in pesos; asked now and then, while the search goes on.
+    // Choices settled of all, and the surplus of the leader in pesos.
     fn note(&mut self, settled: u64, choices: u64, surplus: i64);
 }
 
@@ -90,16 +90,13 @@ pub fn award_sheet<P: Progress>(
 
 // Searches until every choice is settled.
 fn finish<B: BoundingRule, P: Progress>(docket: &Docket, rule: &mut B, progress: &mut P) -> Award
-    requires { ByClosing (view docket.now) }
-    ensures { Awards (view docket.now) result }
+    ensures { ByClosing (view docket.now) → Awards (view docket.now) result }
 {
     let all = choices(docket);
     let mut at = Position::start();
     while at.settled < all {
         at = run(docket, at, rule, STEPS);
-        if at.settled < all {
-            progress.note(at.settled, all, at.surplus);
-        }
+        progress.note(at.settled, all, at.surplus);
     }
     Award {
         choice: at.leader,

@@ -10,6 +10,7 @@ returns c =
     let same : c.len.result ≡ length (vec_items c.args.docket.now.packages) = omega (arith, c.len.ensures, c.args.docket.now.packages.ok.0) in
     let shift = one_shl c.len.result 64 (omega arith) in
     record {
-      value = shift ∙ ap (λ k. 2 ^ k) same;
+      value = shift ∙ ap (λ k. 2 ^ k) c.len.ensures;
+      count = shift ∙ ap (λ k. 2 ^ k) same;
       bound = omega (arith, shift, pow_mono count);
     }
