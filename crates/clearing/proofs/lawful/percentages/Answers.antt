@@ -1,5 +1,5 @@
 -- `percentages`: the zone of a percentage has a place, where the lesser of two stands.
-use Rattle.std.proofs.Common.{◌≡◌, ◌-◌, min, true, leb, get_or, take, set, vec_items, sym, refl, ap, ◌∙◌, subst, ap₂, arith}
+use Rattle.std.proofs.Common.{◌≡◌, ℕ, List, min, true, leb, get_or, take, set, vec_items, sym, refl, ap, ◌∙◌, subst, ap₂, arith}
 use Rattle.std.proofs.lemmas.List.{take_all, take_more}
 use Rattle.clearing.specs.Lawful.{percentage}
 use Rattle.clearing.specs.Ranges.{each}
@@ -27,6 +27,12 @@ bounds-least-zone-then-limit-eq-PERCENTAGE c =
     let ranges = limit_ranged c.args.docket.now c.loop-limit.limit-index c.deref-limit-items.result.now c.deref-limit-items.ensures.value c.loop-limit-test.true in
     omega (arith, ranges.percentage_zone c.if-limit-eq-PERCENTAGE.true)
 
+-- a place of a row set to the lesser of what stood there and an amount, by what the row was
+lesser_set : (next least row_before : List ℕ) (zone lesser amount : ℕ) → next ≡ set least zone lesser → lesser ≡ min (get_or least zone 0) amount → least ≡ row_before
+    → next ≡ set row_before zone (min (get_or row_before zone 0) amount)
+lesser_set next least row_before zone lesser amount sets is was =
+    sets ∙ ap₂ (λ xs n. set xs zone n) was (is ∙ ap (λ xs. min (get_or xs zone 0) amount) was)
+
 pub loop-limit-preserved : goal.loop-limit-preserved
 loop-limit-preserved c =
     let ls = c.deref-limit-items.result.now in
@@ -38,8 +44,7 @@ loop-limit-preserved c =
       | then-limit-eq-PERCENTAGE w ↦
           let ranges = limit_ranged c.args.docket.now i ls c.deref-limit-items.ensures.value inside in
           let is = w.if-limit-eq-PERCENTAGE.true in
-          w.least-is
-          ∙ ap₂ (λ xs n. set xs (l.zone - 1) n) c.loop-limit.invariant (w.min.ensures ∙ ap (λ xs. min (get_or xs (l.zone - 1) 0) l.amount) c.loop-limit.invariant)
+          lesser_set _ _ _ _ _ _ w.least-is (omega arith) c.loop-limit.invariant
           ∙ percentages_set (take i ls) l is ranges.zone_least (ranges.percentage_zone is)
           ∙ more
       | else-limit-eq-PERCENTAGE w ↦

@@ -25,12 +25,8 @@ loop-entry-preserved g c =
     let next : Put c.loop-entry.next c.match-entry.next bytes c.loop-entry.buffer c.match-entry.buffer =
     elim c.match-entry.branch [
       | in-Vacant w ↦ rw (w.in-Vacant.is, w.next-is, w.buffer-is) (put_none _ _)
-      | in-Open w ↦
-          let put = w.put_field-next.ensures in
-          rw (w.in-Open.is, w.next-is, w.buffer-is) (record { ends = put.end; front = put.front; back = put.back })
-      | in-Withdrawn w ↦
-          let put = w.put_field-next-in-Withdrawn.ensures in
-          rw (w.in-Withdrawn.is, w.next-is, w.buffer-is) (record { ends = put.end; front = put.front; back = put.back })
+      | in-Open w ↦ rw (w.in-Open.is, w.next-is, w.buffer-is) (record { ends = cc; front = cc; back = cc })
+      | in-Withdrawn w ↦ rw (w.in-Withdrawn.is, w.next-is, w.buffer-is) (record { ends = cc; front = cc; back = cc })
     ] in (
       omega arith,
       put_entry g.R.Record.layout c.args.entries.now c.loop-entry.entry-index c.entry-item.result c.loop-entry-test.true
