@@ -1,4 +1,4 @@
--- Why one_by_one is sound: what packages add together is no more than what each adds alone.
+-- Why one-by-one is sound: what packages add together is no more than what each adds alone.
 use Rattle.std.specs.Prelude.{◌≡◌, ℕ, zero, suc, ◌+◌, ◌-◌, ◌*◌, ◌/◌, ◌%◌, ◌^◌, ◌<◌, ◌≤◌, Bool, true, false, cond, List, [], ◌∷◌, length, get_or, ◌+ℤ◌, ◌≤ℤ◌, ◌==◌, slice_index_or}
 use Rattle.std.proofs.Common.{sym, ap, ◌∙◌, ⊎_elim, add-zero, zero-add, div-add-mod', arith, pow_mono}
 use Rattle.std.proofs.Math.Nat.{pow-succ', zero-mod}

@@ -36,7 +36,7 @@ ceiling = pos 100000000000000000
 abbrev pub always : Answers
 always v b = Some ceiling
 
--- all_in: what the fixed and free packages together would earn, less the prices of the fixed, less the negative prices of the free
+-- all-in: what the fixed and free packages together would earn, less the prices of the fixed, less the negative prices of the free
 abbrev pub all_in : Answers
 all_in v b = Some ((pos (paid v.bands (filled_sales v (last_of b))) -ℤ cost (fixed v b)) -ℤ below_zero (free_ones v b))
 
@@ -49,7 +49,7 @@ abbrev pub gains : View → ℕ → ℕ → ℤ
 gains v choice zero = pos 0
 gains v choice (suc digit) = gains v choice digit +ℤ int_max (unlimited v (choice + 2 ^ digit) -ℤ unlimited v choice) (pos 0)
 
--- one_by_one: the surplus of the fixed packages, lawful or not, and what each free package alone would add to it, if above 0
+-- one-by-one: the surplus of the fixed packages, lawful or not, and what each free package alone would add to it, if above 0
 abbrev pub one_by_one : Answers
 one_by_one v b = Some (unlimited v b.first +ℤ gains v b.first b.free)
 

@@ -42,7 +42,7 @@ pub record Takes (rule : Answers) (v : View) (before : ℕ) : Type 0 where
   pub by_then : finished v (steps rule v (suc before) start) ≡ true
   pub not_before : finished v (steps rule v before start) ≡ false
 
--- four steps under the ceiling, two under all_in
+-- four steps under the ceiling, two under all-in
 pub record TwoPackagesSteps : Type 0 where
   pub ceiling : Takes always two_packages 3
   pub taking_all : Takes all_in two_packages 1

@@ -1,11 +1,11 @@
 // Whole numbers as bytes, the high ones first, and tests on ranges.
 ghost use Rattle.std.specs.Prelude.{◌≡◌, ℕ, ◌+◌, ◌<◌, ◌≤◌, Bool, List, [], ◌∷◌, ◌++◌, length, take, drop};
-ghost use Rattle.std.specs.Int.Digits.{number_from_digits as value_of_lem};
-ghost use Rattle.offers.specs.Fields.{high_first, within as is_Within, first_false};
+ghost use Rattle.std.specs.Int.Digits.{number_from_digits};
+ghost use Rattle.offers.specs.Fields.{high_first, within, first_false};
 
 // Whether a value is one of `least` to `most`.
 pub(crate) fn within(value: u64, least: u64, most: u64) -> bool
-    ensures { result ≡ is_Within least most value }
+    ensures { result ≡ within least most value }
 {
     least <= value && value <= most
 }
@@ -61,7 +61,7 @@ pub(crate) fn put_u8(out: &mut [u8], at: usize, value: u8)
 // The number in four bytes from `at` on.
 pub(crate) fn u32_at(src: &[u8], at: usize) -> u32
     requires { at + 4 ≤ length src.now }
-    ensures { result ≡ value_of_lem 256 (take 4 (drop at src.now)) }
+    ensures { result ≡ number_from_digits 256 (take 4 (drop at src.now)) }
 {
     u32::from_be_bytes([src[at], src[at + 1], src[at + 2], src[at + 3]])
 }
@@ -69,7 +69,7 @@ pub(crate) fn u32_at(src: &[u8], at: usize) -> u32
 // The number in eight bytes from `at` on.
 pub(crate) fn u64_at(src: &[u8], at: usize) -> u64
     requires { at + 8 ≤ length src.now }
-    ensures { result ≡ value_of_lem 256 (take 8 (drop at src.now)) }
+    ensures { result ≡ number_from_digits 256 (take 8 (drop at src.now)) }
 {
     let high = u32_at(src, at);
     let low = u32_at(src, at + 4);
@@ -79,7 +79,7 @@ pub(crate) fn u64_at(src: &[u8], at: usize) -> u64
 // The number in one byte at `at`.
 pub(crate) fn u8_at(src: &[u8], at: usize) -> u8
     requires { at + 1 ≤ length src.now }
-    ensures { result ≡ value_of_lem 256 (take 1 (drop at src.now)) }
+    ensures { result ≡ number_from_digits 256 (take 1 (drop at src.now)) }
 {
     src[at]
 }
