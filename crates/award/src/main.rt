@@ -1,12 +1,13 @@
 // Reads a sheet from standard input, clears its round, and prints the award.
 #![tactic(auto)]
 
-ghost use Rattle.std.specs.Prelude.{◌≤◌, IfOk};
+ghost use Rattle.std.specs.Prelude.{◌≡◌, ◌≤◌, IfOk, IfSome, take, vec_len};
 
 use anyhow::anyhow;
 use clearing::dockets::Docket;
 use rounds::report::{RefusedSheet, Report};
 use rounds::sheet_round::{Progress, award_sheet};
+use std::alloc::Global;
 use std::io;
 use std::io::Read;
 
@@ -31,30 +32,24 @@ impl Progress for Meter<'_> {
     }
 }
 
-// Reads until the input ends or the buffer is full, and gives how many bytes came.
-fn read_all(rt: &HostRuntime, buffer: &mut [u8; MOST]) -> io::Result<usize>
-    ensures { IfOk result (λ count. count ≤ 4096) }
+// The bytes that come, up to MOST; the rest is left unread.
+fn read_all<R: Read + Drop>(heap: Global, input: R) -> io::Result<Vec<u8>>
+    ensures few { IfOk result (λ sheet. vec_len sheet ≤ 4096) }
+    ensures bytes { IfOk result (λ sheet. IfSome (R.Read.remaining input) (λ all. sheet.items ≡ take 4096 all)) }
 {
-    let mut filled = 0;
-    for _ in 0..MOST {
-        if filled == MOST {
-            break;
-        }
-        let count = rt.stdin().read(&mut buffer[filled..])?;
-        if count == 0 {
-            break;
-        }
-        filled += count;
-    }
-    Ok(filled)
+    let mut sheet = Vec::new(heap);
+    input.take(MOST as u64).read_to_end(&mut sheet)?;
+    // `take` promises its limit only where the bytes to come are known
+    sheet.truncate(MOST);
+    Ok(sheet)
 }
 
 fn main(rt: HostRuntime) -> anyhow::Result<()> {
-    let mut buffer = [0u8; MOST];
-    let length = read_all(&rt, &mut buffer)?;
+    let sheet = read_all(rt.alloc(), rt.stdin())?;
+    // the library's own text for this is another
     let mut docket = Docket::new(rt.alloc()).map_err(|_| anyhow!("out of memory"))?;
     let mut meter = Meter { rt: &rt, notes: 0 };
-    match award_sheet(&mut docket, &buffer[0..length], &mut meter) {
+    match award_sheet(&mut docket, &sheet, &mut meter) {
         Ok(award) => {
             let report = Report::of(rt.alloc(), &docket, award).map_err(|_| anyhow!(
                 "out of memory"

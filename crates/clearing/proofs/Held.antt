@@ -1,14 +1,13 @@
 -- What a docket holds is in range, read at a place.
 use Rattle.std.proofs.Common.{◌≡◌, ℕ, ◌<◌, true, List, length, get_or, pos, vec_items}
-use Rattle.offers.specs.declared.records.Pair.{Pair}
 use Rattle.offers.specs.declared.records.Exclusion.{Exclusion}
 use Rattle.offers.specs.declared.records.Limit.{Limit}
-use Rattle.offers.specs.Tables.{pair_layout, exclusion_layout, limit_layout}
+use Rattle.offers.specs.Tables.{exclusion_layout, limit_layout}
 use Rattle.clearing.specs.declared.dockets.PricedPackage.{PricedPackage}
 use Rattle.clearing.specs.declared.dockets.OpenBand.{OpenBand}
 use Rattle.clearing.specs.declared.dockets.Docket.{Docket}
-use Rattle.clearing.specs.Ranges.{fits, package_fits, band_fits}
-use Rattle.clearing.proofs.Fits.{each_getD, PairRanges, pair_ranges, ExclusionRanges, exclusion_ranges, LimitRanges, limit_ranges, OpenRanges, open_ranges}
+use Rattle.clearing.specs.Ranges.{fits, band_fits}
+use Rattle.clearing.proofs.Fits.{each_getD, ExclusionRanges, exclusion_ranges, LimitRanges, limit_ranges, OpenRanges, open_ranges}
 
 -- what stands past the end of each list
 abbrev pub no_package : PricedPackage
@@ -34,9 +33,6 @@ no_package = record {
 abbrev pub no_band : OpenBand
 no_band = record { number = 0; ahead = 0; «record» = record { market = 0; quantity = 0; price = 0 } }
 
-abbrev pub no_pair : Pair
-no_pair = record { dependent = 0; needed = 0 }
-
 abbrev pub no_exclusion : Exclusion
 no_exclusion = record { group = 0; member = 0 }
 
@@ -44,21 +40,13 @@ abbrev pub no_limit : Limit
 no_limit = record { sort = 0; zone = 0; amount = 0 }
 
 module _ (d : Docket) (i : ℕ) where
-  -- a package that a docket holds is in range
-  pub package_held : (ps : List PricedPackage) → ps ≡ vec_items d.packages → i < length ps → package_fits (get_or ps i no_package) ≡ true
-  package_held ps e h = each_getD package_fits ps i no_package h (rw e d.packages_fit)
-
-  -- so is a band
+  -- a band that a docket holds is in range
   pub band_held : (bs : List OpenBand) → bs ≡ vec_items d.bands → i < length bs → band_fits (get_or bs i no_band) ≡ true
   band_held bs e h = each_getD band_fits bs i no_band h (rw e d.bands_fit)
 
   -- with its fields
   pub band_ranged : (bs : List OpenBand) → bs ≡ vec_items d.bands → i < length bs → OpenRanges (get_or bs i no_band)
   band_ranged bs e h = open_ranges (get_or bs i no_band) (band_held bs e h)
-
-  -- a pair that a docket holds, with its fields
-  pub pair_held : (ps : List Pair) → ps ≡ vec_items d.pairs → i < length ps → PairRanges (get_or ps i no_pair)
-  pair_held ps e h = pair_ranges (get_or ps i no_pair) (each_getD (fits pair_layout) ps i no_pair h (rw e d.pairs_fit))
 
   -- an exclusion that it holds, with its fields
   pub exclusion_held : (xs : List Exclusion) → xs ≡ vec_items d.exclusions → i < length xs → ExclusionRanges (get_or xs i no_exclusion)

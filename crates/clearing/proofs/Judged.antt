@@ -1,7 +1,7 @@
 -- What the tests of a choice decide: the rules of a lawful choice, over its packages and over a tally's rows.
-use Rattle.std.proofs.Common.{◌≡◌, ℕ, zero, suc, ◌*◌, ◌≤◌, Bool, true, false, leb, List, [], ◌∷◌, ℤ, Some, None, Decides, Option, sym, refl, ap, ◌∙◌, ⊎_elim, arith}
+use Rattle.std.proofs.Common.{◌≡◌, ℕ, ◌*◌, ◌≤◌, Bool, true, false, List, [], ◌∷◌, ℤ, Some, None, Decides, Option, sym, refl, ap, ◌∙◌, ⊎_elim, arith}
 use Rattle.std.specs.List.{AllByRecursion as Every}
-use Rattle.std.proofs.lemmas.Bool.{leb-true, le-leb, cases_Bool, both_ways}
+use Rattle.std.proofs.lemmas.Bool.{cases_Bool, both_ways}
 use Rattle.std.proofs.lemmas.Bool.Decides.{same_from_decides, Decides-like, Decides-eqb, Decides-and}
 use Rattle.std.proofs.ByRecursion.{Decides-by_and}
 use Rattle.offers.specs.declared.records.Pair.{Pair}
@@ -11,34 +11,19 @@ use Rattle.offers.specs.Tables.{pair_layout, exclusion_layout, limit_layout}
 use Rattle.clearing.specs.declared.dockets.PricedPackage.{PricedPackage}
 use Rattle.clearing.specs.declared.tallies.Tally.{Tally}
 use Rattle.clearing.specs.Choices.{taken, supply, dated, nameplates, exports, has_number}
-use Rattle.clearing.specs.Judging.{implies, pairs_met, groups_apart, zones_within, share_kept, dates_within, passes, worth_of}
+use Rattle.clearing.specs.Judging.{pairs_met, groups_apart, zones_within, share_kept, dates_within, passes, worth_of}
 use Rattle.clearing.specs.Lawful.{View, sold, percentage, Lawful, Worth, filled_sales}
 use Rattle.clearing.specs.Kept.{PairsKept, ExclusionsKept, ZonesKept}
 use Rattle.clearing.specs.Ranges.{each, fits}
 use Rattle.clearing.specs.Tallies.{row, tally_of}
 use Rattle.clearing.proofs.Filling.{best-filled, filled_small, filled_within}
 use Rattle.clearing.proofs.Ranged.{Ranged}
+use Rattle.clearing.proofs.Tested.{implies_decides, itself, decides_leb, of_three}
 use Rattle.clearing.proofs.RowRules.{all_both, pairs-same, exclusions-same, zones-same}
 
 -- a test of each element decides a rule of each
 pub each_decides : {X : Type 0} (p : X → Bool) (P : X → Type 0) → ((x : X) → Decides (p x) (P x)) → (xs : List X) → Decides (each p xs) (Every P xs)
 each_decides p P decides xs = Decides-by_and p P (each p) decides refl (λ _ _. refl) xs
-
--- a test of what follows decides what follows
-implies_decides : {P Q : Type 0} (a b : Bool) → Decides a P → Decides b Q → Decides (implies a b) (P → Q)
-implies_decides true b one other = ((λ e _. other.0 e), (λ f. other.1 (f (one.0 refl))))
-implies_decides false b one other = ((λ _ p. other.0 (absurd_from (one.1 p))), (λ _. refl))
-  where
-    absurd_from : false ≡ true → b ≡ true
-    absurd_from e = let z : ◌≡◌ {A = ℕ} 0 1 = cc in absurd (omega arith)
-
--- an order of numbers
-decides_leb : (a b : ℕ) → Decides (leb a b) (a ≤ b)
-decides_leb a b = (leb-true a b, le-leb a b)
-
--- a test decides that it is passed
-itself : (b : Bool) → Decides b (b ≡ true)
-itself b = ((λ e. e), (λ e. e))
 
 -- the rule of pairs
 pub pairs_tell : (pairs : List Pair) (T W : List PricedPackage)
@@ -80,14 +65,6 @@ module _ (T : List PricedPackage) (t : Tally) (counted : t ≡ tally_of T) (r : 
   zones-tested ls ok decides =
       let same = zones-same T t counted ls ok in
       same_from_decides r _ (Decides-like r same.0 same.1 decides) (zones_tell ls T)
-
--- what holds of each of three markets holds of any from 1 to 3
-of_three : (P : ℕ → Type 0) → P 1 → P 2 → P 3 → (m : ℕ) → 1 ≤ m → m ≤ 3 → P m
-of_three P one two three zero low high = absurd (omega arith)
-of_three P one two three (suc zero) low high = one
-of_three P one two three (suc (suc zero)) low high = two
-of_three P one two three (suc (suc (suc zero))) low high = three
-of_three P one two three (suc (suc (suc (suc m)))) low high = absurd (omega arith)
 
 -- the percentage of dated supply that a market keeps
 abbrev Shared : View → List PricedPackage → List ℕ → ℕ → ℕ → ℕ → Type 0

@@ -2,11 +2,16 @@
 use Rattle.std.specs.Prelude.{ℕ, ◌+◌, ◌/◌, ◌%◌, Bool, false, cond, ◌&&◌, ◌||◌, List, [], ◌∷◌, ℤ, pos, ◌+ℤ◌, ◌==◌}
 use Rattle.offers.specs.declared.records.Package.{Package}
 use Rattle.clearing.specs.declared.dockets.PricedPackage.{PricedPackage}
+use Rattle.clearing.specs.declared.choices.Taken.{Taken}
 
 -- the packages of a docket that a choice takes: its lowest binary digit stands for the first, 1 meaning taken
 abbrev pub taken : List PricedPackage → ℕ → List PricedPackage
 taken [] choice = []
 taken (p ∷ ps) choice = cond (choice % 2 == 1) (p ∷ taken ps (choice / 2)) (taken ps (choice / 2))
+
+-- those that are still to come of a walk over them
+abbrev pub still_taken : Taken → List PricedPackage
+still_taken t = taken t.packages.now t.digits
 
 -- the sum of an amount over a list
 abbrev pub total : {X : Type 0} → (X → ℕ) → List X → ℕ

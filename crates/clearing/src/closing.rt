@@ -1,8 +1,6 @@
 // Closing: the open records are copied into the docket, and each package is priced.
 ghost use Rattle.std.specs.Prelude.{◌≡◌, ℕ, ◌+◌, ◌-◌, ◌≤◌, true, ◌&&◌, ◌||◌, map, length, pos, IfOk, Ok, Err, vec_len, vec_capacity, MatchResult, ◌==◌, nat_lt, slice_index_or};
 ghost use Rattle.offers.specs.Memory.{held};
-ghost use Rattle.offers.specs.Registers.{InRange};
-ghost use Rattle.offers.specs.Tables.{package_layout, band_layout};
 ghost use Rattle.offers.specs.declared.records.Package.{Package as Rated};
 ghost use Rattle.offers.specs.declared.registers.Entry.TheVariants.{Vacant, Open};
 ghost use Rattle.clearing.specs.Bands.{ahead_of};
@@ -11,6 +9,7 @@ ghost use Rattle.clearing.specs.Lawful.{view, nothing_open};
 ghost use Rattle.clearing.specs.Ranges.{each, fits, price_fits, package_fits, band_fits};
 
 use crate::dockets::{Docket, OpenBand, PricedPackage};
+use offers::ledgers::Ledger;
 use offers::memory::Offers;
 use offers::records::{Band, Package, Record};
 use offers::refusals::{Code, Refusal};
@@ -60,17 +59,15 @@ impl Docket {
     }
 }
 
-// The price of each open package, at its place in the register; the lowest-numbered one with a fault refuses.
-fn price_all<P: PriceRule>(
-    entries: &[Entry<Package>; 40],
-    rule: &mut P,
-) -> Result<[i64; 40], Refusal>
+// The price of each open package, at its place in the register; the lowest-numbered one with a fault refuses. No memory is got at a
+// closing, and the docket stays as it is until all prices are known, so they stand in an array beside the register.
+fn price_all<P: PriceRule>(ledger: &Ledger<Package, 40>, rule: &mut P) -> Result<[i64; 40], Refusal>
     ensures fit { IfOk result (λ ps. each price_fits ps ≡ true) }
-    ensures answer { MatchResult result (λ ps. (k : ℕ) (p : Rated) → slice_index_or entries.now k Vacant ≡ Open p → P.PriceRule.meaning rule.old p ≡ Ok (slice_index_or ps k (pos 0))) (λ e. priced (P.PriceRule.meaning rule.old) (open_from 1 entries.now) ≡ Err e) }
+    ensures answer { MatchResult result (λ ps. (k : ℕ) (p : Rated) → slice_index_or ledger.now.entries k Vacant ≡ Open p → P.PriceRule.meaning rule.old p ≡ Ok (slice_index_or ps k (pos 0))) (λ e. priced (P.PriceRule.meaning rule.old) (open_from 1 ledger.now.entries) ≡ Err e) }
     ensures same_rule { P.PriceRule.meaning rule.new ≡ P.PriceRule.meaning rule.old }
 {
     let mut prices = [0i64; 40];
-    for (i, entry) in entries.iter().enumerate() {
+    for (i, entry) in ledger.entries.iter().enumerate() {
         if let Entry::Open(package) = entry {
             match rule.price(package) {
                 Ok(price) => prices[i] = price,
@@ -87,27 +84,25 @@ fn price_fault(at: usize, depth: u8) -> Refusal
     ensures { result ≡ no_price (at + 1) (record { depth = depth }) }
 {
     Refusal {
-        code: Code::PriceFault,
-        tag: <Package as Record>::tag_byte(),
+        tag: Package::TAG,
         number: at as u8 + 1,
-        field: 0,
-        byte: 0,
         depth,
+        ..Refusal::of(Code::PriceFault)
     }
 }
 
-// Puts the open packages with their prices in the place of what was there.
-fn copy_packages(entries: &[Entry<Package>; 40], prices: &[i64; 40], into: &mut Vec<PricedPackage>)
+// Puts the open packages with their prices in the place of what was there. This and the two below differ in what they make of a
+// record; a closure for it would need longer clauses than the loops are.
+fn copy_packages(ledger: &Ledger<Package, 40>, prices: &[i64; 40], into: &mut Vec<PricedPackage>)
     requires room { 40 ≤ vec_capacity into.old }
-    requires in_range { InRange package_layout entries.now }
     requires prices_fit { each price_fits prices.now ≡ true }
     ensures capacity { vec_capacity into.new ≡ vec_capacity into.old }
     ensures len { vec_len into.new ≤ 40 }
     ensures fit { each package_fits into.new.items ≡ true }
-    ensures items { into.new.items ≡ map (λ p. record { number = p.number; price = slice_index_or prices.now (p.number - 1) (pos 0); «record» = p.of }) (open_from 1 entries.now) }
+    ensures items { into.new.items ≡ map (λ p. record { number = p.number; price = slice_index_or prices.now (p.number - 1) (pos 0); «record» = p.of }) (open_from 1 ledger.now.entries) }
 {
     into.clear();
-    for (i, entry) in entries.iter().enumerate() {
+    for (i, entry) in ledger.entries.iter().enumerate() {
         if let Entry::Open(record) = entry {
             into.push_reserved(PricedPackage {
                 number: i as u8 + 1,
@@ -119,34 +114,33 @@ fn copy_packages(entries: &[Entry<Package>; 40], prices: &[i64; 40], into: &mut 
 }
 
 // Puts the open bands in the place of what was there, each with what stands ahead of it.
-fn copy_bands(entries: &[Entry<Band>; 64], into: &mut Vec<OpenBand>)
+fn copy_bands(ledger: &Ledger<Band, 64>, into: &mut Vec<OpenBand>)
     requires room { 64 ≤ vec_capacity into.old }
-    requires in_range { InRange band_layout entries.now }
     ensures capacity { vec_capacity into.new ≡ vec_capacity into.old }
     ensures len { vec_len into.new ≤ 64 }
     ensures fit { each band_fits into.new.items ≡ true }
-    ensures items { into.new.items ≡ open_bands entries.now }
+    ensures items { into.new.items ≡ open_bands ledger.now.entries }
 {
     into.clear();
-    for (i, entry) in entries.iter().enumerate() {
+    for (i, entry) in ledger.entries.iter().enumerate() {
         if let Entry::Open(record) = entry {
             into.push_reserved(OpenBand {
                 number: i as u8 + 1,
-                ahead: ahead_of(entries, i, record),
+                ahead: ahead_of(ledger, i, record),
                 record: *record,
             });
         }
     }
 }
 
-// The quantity of the open bands that are served before the band at a place of the register.
-fn ahead_of(entries: &[Entry<Band>; 64], at: usize, band: &Band) -> u64
-    requires { InRange band_layout entries.now }
-    ensures value { result ≡ ahead_of (open_from 1 entries.now) (record { number = at + 1; of = band.now }) }
+// The quantity of the open bands that are served before the band at a place of the register. A loop, since a chain would spread its
+// two tests over three closures.
+fn ahead_of(ledger: &Ledger<Band, 64>, at: usize, band: &Band) -> u64
+    ensures value { result ≡ ahead_of (open_from 1 ledger.now.entries) (record { number = at + 1; of = band.now }) }
     ensures bound { result ≤ 6400000000 }
 {
     let mut ahead = 0u64;
-    for (i, entry) in entries.iter().enumerate() {
+    for (i, entry) in ledger.entries.iter().enumerate() {
         if let Entry::Open(other) = entry {
             if comes_ahead(other, band, i < at) {
                 ahead += other.quantity as u64;
@@ -156,7 +150,8 @@ fn ahead_of(entries: &[Entry<Band>; 64], at: usize, band: &Band) -> u64
     ahead
 }
 
-// Whether a band is served before another: a higher price in its market, or an equal price and a smaller number.
+// Whether a band is served before another: a higher price in its market, or an equal price and a smaller number, which the records do
+// not have.
 fn comes_ahead(other: &Band, band: &Band, smaller_number: bool) -> bool
     ensures { result ≡ (other.now.market == band.now.market && (nat_lt band.now.price other.now.price || (other.now.price == band.now.price && smaller_number))) }
 {
@@ -165,16 +160,15 @@ fn comes_ahead(other: &Band, band: &Band, smaller_number: bool) -> bool
 }
 
 // Puts the open records of a register in the place of what was there.
-fn copy_open<R: Record>(entries: &[Entry<R>], into: &mut Vec<R>)
-    requires room { length entries.now ≤ vec_capacity into.old }
-    requires in_range { InRange R.Record.layout entries.now }
+fn copy_open<R: Record, const N: usize>(ledger: &Ledger<R, N>, into: &mut Vec<R>)
+    requires room { length ledger.now.entries ≤ vec_capacity into.old }
     ensures capacity { vec_capacity into.new ≡ vec_capacity into.old }
-    ensures len { vec_len into.new ≤ length entries.now }
+    ensures len { vec_len into.new ≤ length ledger.now.entries }
     ensures fit { each (fits R.Record.layout) into.new.items ≡ true }
-    ensures items { into.new.items ≡ open_records entries.now }
+    ensures items { into.new.items ≡ open_records ledger.now.entries }
 {
     into.clear();
-    for entry in entries {
+    for entry in ledger.entries.iter() {
         if let Entry::Open(record) = entry {
             into.push_reserved(*record);
         }

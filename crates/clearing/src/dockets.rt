@@ -6,7 +6,8 @@ ghost use Rattle.clearing.specs.Ranges.{each, fits, package_fits, band_fits};
 
 use offers::records::{Band, Exclusion, Limit, Package, Pair};
 
-// An open package with its offer number and its price in pesos.
+// An open package with its offer number and its price in pesos. That it, or an open band, is in range is said by the docket and where
+// one is handed on: definitions make such values, and with an invariant each would have to prove it.
 #[derive(Clone, Copy)]
 pub struct PricedPackage {
     pub number: u8,
@@ -22,7 +23,8 @@ pub struct OpenBand {
     pub record: Band,
 }
 
-// What was open at a closing, each kind by rising offer number. Its memory is got once, with the round.
+// What was open at a closing, each kind by rising offer number. Its memory is got once, with the round. A type of list that holds its
+// two bounds would take ten of the invariants below, and put one more name before each `items` that contracts and definitions read.
 #[derive(Drop)]
 pub struct Docket {
     pub packages: Vec<PricedPackage>,

@@ -1,5 +1,5 @@
 // Whether a choice keeps the rules.
-ghost use Rattle.std.specs.Prelude.{◌≡◌, ℕ, ◌-◌, true, List, if◌then◌else◌, Decides, nat_eq, nat_le, slice_index};
+ghost use Rattle.std.specs.Prelude.{◌≡◌, ℕ, ◌-◌, ◌*◌, ◌≤◌, true, List, if◌then◌else◌, Decides, nat_eq, nat_le, slice_index};
 ghost use Rattle.offers.specs.Tables.{limit_layout};
 ghost use Rattle.clearing.specs.Filling.{BestFilled};
 ghost use Rattle.clearing.specs.Judging.{worth_of};
@@ -10,40 +10,32 @@ ghost use Rattle.clearing.specs.Ranges.{each, fits};
 
 use crate::dockets::Docket;
 use crate::sales::{Sales, sell};
-use crate::tallies::{CERTIFICATES, Tally};
+use crate::tallies::{CERTIFICATES, ENERGY, Tally};
+use offers::marks::Sort;
 use offers::records::Limit;
-
-// The sorts of limits.
-const INTERCONNECTION: u8 = 1;
-
-const EXPORT: u8 = 2;
-
-const PERCENTAGE: u8 = 3;
 
 // Whether each taken package that needs another has it among those that `within` has.
 pub fn pairs_kept(docket: &Docket, taken: &Tally, within: &Tally) -> bool
     ensures { Decides result (PairsKept docket.now.pairs.items taken.now.takes within.now.takes) }
 {
-    for pair in docket.pairs.iter() {
-        if taken.takes[pair.dependent as usize] && !within.takes[pair.needed as usize] {
-            return false;
-        }
-    }
-    true
+    docket.pairs.iter().all(|pair| {
+        !taken.takes[pair.dependent as usize] || within.takes[pair.needed as usize]
+    })
 }
 
-// Whether no two different taken packages are in one group.
+// Whether no two different taken packages are in one group. A loop, since each turn looks at what the turns before it saw.
 pub fn exclusions_kept(docket: &Docket, taken: &Tally) -> bool
     ensures { Decides result (ExclusionsKept docket.now.exclusions.items taken.now.takes) }
 {
-    let mut first = [0u8; 16];
+    let mut first = [None; 16];
     for exclusion in docket.exclusions.iter() {
         let group = exclusion.group as usize - 1;
-        if taken.takes[exclusion.member as usize] {
-            if first[group] != 0 && first[group] != exclusion.member {
-                return false;
+        let member = exclusion.member;
+        if taken.takes[member as usize] {
+            match first[group] {
+                Some(other) if other != member => return false,
+                _ => first[group] = Some(member),
             }
-            first[group] = exclusion.member;
         }
     }
     true
@@ -53,12 +45,10 @@ pub fn exclusions_kept(docket: &Docket, taken: &Tally) -> bool
 pub fn zones_kept(docket: &Docket, taken: &Tally) -> bool
     ensures { Decides result (ZonesKept docket.now.limits.items taken.now.nameplate taken.now.export) }
 {
-    for limit in docket.limits.iter() {
-        if zone_load(limit, taken) > limit.amount as u64 {
-            return false;
-        }
-    }
-    true
+    docket
+        .limits
+        .iter()
+        .all(|limit| zone_load(limit, taken) <= limit.amount as u64)
 }
 
 // What counts against a limit of a zone; nothing counts against a percentage here.
@@ -66,21 +56,24 @@ fn zone_load(limit: &Limit, taken: &Tally) -> u64
     requires { fits limit_layout limit.now ≡ true }
     ensures { result ≡ (if nat_eq limit.now.sort 1 then slice_index taken.now.nameplate (limit.now.zone - 1) else (if nat_eq limit.now.sort 2 then slice_index taken.now.export (limit.now.zone - 1) else 0)) }
 {
-    match limit.sort {
-        INTERCONNECTION => taken.nameplate[limit.zone as usize - 1],
-        EXPORT => taken.export[limit.zone as usize - 1],
-        _ => 0,
+    if limit.is_on(Sort::Interconnection) {
+        taken.nameplate[limit.zone as usize - 1]
+    } else if limit.is_on(Sort::Export) {
+        taken.export[limit.zone as usize - 1]
+    } else {
+        0
     }
 }
 
-// The percentages that bind: power before and after, certificates before and after; the least of each, or 100.
+// The percentages that bind, by the zone that a limit has for each: power before and after, certificates before and after; the least
+// of each, or 100.
 fn percentages(docket: &Docket) -> [u64; 4]
     ensures value { result ≡ row (percentage docket.now.limits.items) 1 4 }
     ensures bound { each (λ n. nat_le n 100) result ≡ true }
 {
     let mut least = [100u64; 4];
     for limit in docket.limits.iter() {
-        if limit.sort == PERCENTAGE {
+        if limit.is_on(Sort::Percentage) {
             let zone = limit.zone as usize - 1;
             least[zone] = least[zone].min(limit.amount as u64);
         }
@@ -88,7 +81,19 @@ fn percentages(docket: &Docket) -> [u64; 4]
     least
 }
 
-// Whether what dated packages supply is at most its percentage of what is sold.
+// Whether what dated packages supply to a market is at most a percentage of what is sold there.
+fn share_kept(percent: u64, dated: &[u64; 5], sold: &[u64; 5], market: usize) -> bool
+    requires percent { percent ≤ 100 }
+    requires dated { each (λ n. nat_le n 400000000) dated.now ≡ true }
+    requires sold { each (λ n. nat_le n 6400000000) sold.now ≡ true }
+    requires first { 1 ≤ market }
+    requires last { market ≤ 5 }
+    ensures { result ≡ nat_le (100 * slice_index dated.now (market - 1)) (percent * slice_index sold.now (market - 1)) }
+{
+    100 * dated[market - 1] <= percent * sold[market - 1]
+}
+
+// Whether dated packages keep their percentages, in each market of power and in that of certificates.
 fn dates_kept(docket: &Docket, taken: &Tally, sales: &Sales) -> bool
     requires before { each (λ n. nat_le n 400000000) taken.now.before ≡ true }
     requires after { each (λ n. nat_le n 400000000) taken.now.after ≡ true }
@@ -96,20 +101,15 @@ fn dates_kept(docket: &Docket, taken: &Tally, sales: &Sales) -> bool
     ensures { Decides result (DatesKept docket.now.limits.items taken.now sales.now.sold) }
 {
     let least = percentages(docket);
-    for market in 0..3 {
-        if 100 * taken.before[market] > least[0] * sales.sold[market] {
-            return false;
-        }
-        if 100 * taken.after[market] > least[1] * sales.sold[market] {
-            return false;
-        }
-    }
-    let market = CERTIFICATES - 1;
-    100 * taken.before[market] <= least[2] * sales.sold[market]
-        && 100 * taken.after[market] <= least[3] * sales.sold[market]
+    (1..ENERGY).all(|market| {
+        share_kept(least[0], &taken.before, &sales.sold, market)
+            && share_kept(least[1], &taken.after, &sales.sold, market)
+    }) && share_kept(least[2], &taken.before, &sales.sold, CERTIFICATES)
+        && share_kept(least[3], &taken.after, &sales.sold, CERTIFICATES)
 }
 
-// The surplus in pesos of a choice with filled sales, if it is lawful.
+// The surplus in pesos of a choice with filled sales, if it is lawful. One docket is asked about many choices, so the two stay two
+// parameters, here and above.
 pub fn worth(docket: &Docket, choice: u64) -> Option<i64>
     ensures value { result ≡ worth_of (view docket.now) choice }
     ensures worth { Worth (view docket.now) choice result }

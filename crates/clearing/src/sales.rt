@@ -6,7 +6,7 @@ ghost use Rattle.clearing.specs.Sales.{filled, sale_of, sales_of};
 
 use crate::dockets::{Docket, OpenBand};
 
-// What is sold in each market, and what it brings in pesos. Market m stands at place m - 1.
+// What is sold in each market, and what it brings in pesos. Market m stands at place m - 1, in an array as in `Tally`.
 #[derive(Clone, Copy)]
 pub struct Sales {
     pub sold: [u64; 5],

@@ -5,13 +5,15 @@ ghost use Rattle.clearing.specs.Ranges.{each, package_fits};
 ghost use Rattle.clearing.specs.Tallies.{tally_of, Room, added, row, plus};
 
 use crate::dockets::{Docket, PricedPackage};
+use offers::marks::Date;
 
-// Power in a zone is the market of that number.
+// Power in a zone is the market of that number, so markets stay numbers: each is its place in the rows below, counted from 1.
 pub const ENERGY: usize = 4;
 
 pub const CERTIFICATES: usize = 5;
 
-// The sums over the taken packages. Market m stands at place m - 1, zone z at place z - 1.
+// The sums over the taken packages. Market m stands at place m - 1, zone z at place z - 1. The rules fix how many markets, zones
+// and numbers there are, and a step gets no memory, so rows are arrays; what takes one row is handed one, so they stand apart.
 #[derive(Clone, Copy)]
 pub struct Tally {
     // by offer number: is it taken?
@@ -28,7 +30,7 @@ pub struct Tally {
 }
 
 impl Tally {
-    // What a choice takes. Its binary digits stand for the docket's packages, the lowest for the first.
+    // What a choice takes of a docket, together.
     pub fn of(docket: &Docket, choice: u64) -> Tally
         ensures { result ≡ tally_of (taken docket.now.packages.items choice) }
     {
@@ -41,12 +43,8 @@ impl Tally {
             export: [0; 16],
             cost: 0,
         };
-        let mut digits = choice;
-        for package in docket.packages.iter() {
-            if digits % 2 == 1 {
-                sums.add(package);
-            }
-            digits /= 2;
+        for package in docket.taken(choice) {
+            sums.add(package);
         }
         sums
     }
@@ -61,12 +59,13 @@ impl Tally {
         self.takes[package.number as usize] = true;
         self.cost += package.price;
         add_supply(&mut self.supply, package);
-        if record.date == 1 {
+        if record.is_dated(Date::Before) {
             add_supply(&mut self.before, package);
         }
-        if record.date == 2 {
+        if record.is_dated(Date::After) {
             add_supply(&mut self.after, package);
         }
+        // a mark is 0 or 1, and has no other case that a name would tell apart
         if record.unqualified == 1 {
             self.nameplate[record.interconnection_zone as usize - 1] += record.nameplate as u64;
             self.export[record.export_zone as usize - 1] += record.energy as u64;

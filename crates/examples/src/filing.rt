@@ -1,8 +1,9 @@
 // Each refusal of filing and withdrawing, with all its values, and what a refused call leaves.
+use crate::worked::refusal;
 use offers::memory::{Kind, Offer, Offers};
 use offers::records::{Band, Exclusion, Limit, Pair};
-use offers::refusals::{Code, Refusal};
-use offers::registers::Entry;
+use offers::refusals::Code;
+use offers::registers::{Entry, Register};
 use std::test::*;
 
 const PAIR: Pair = Pair {
@@ -15,29 +16,32 @@ const OTHER_PAIR: Pair = Pair {
     needed: 4,
 };
 
-// What a refused call on one number answers: neither a sheet's byte nor a price rule's depth.
-fn refused(code: Code, tag: u8, number: u8, field: u8) -> Result<(), Refusal> {
-    Err(Refusal {
-        code,
-        tag,
-        number,
-        field,
-        byte: 0,
-        depth: 0,
-    })
-}
-
 #[test]
 fn filing_and_withdrawing(rt: HostRuntime) -> Result<(), Fail> {
     let mut offers = Offers::vacant();
-    let entry = offers.pairs[6];
+    let entry = offers.pairs.entries[6];
     assert_eq!(rt; entry, Entry::Vacant);
     offers.file(7, Offer::Pair(PAIR))?;
-    let entry = offers.pairs[6];
+    let entry = offers.pairs.entries[6];
     assert_eq!(rt; entry, Entry::Open(PAIR));
     offers.withdraw(Kind::Pair, 7)?;
-    let entry = offers.pairs[6];
+    let entry = offers.pairs.entries[6];
     assert_eq!(rt; entry, Entry::Withdrawn(PAIR));
+    Ok(())
+}
+
+// A register may be lent by anyone; one that is short has only the numbers that it has entries for.
+#[test]
+fn a_short_register(rt: HostRuntime) -> Result<(), Fail> {
+    let mut entries = [Entry::Vacant; 2];
+    let mut register = Register(&mut entries);
+    register.file(2, PAIR)?;
+    assert_eq!(rt;
+        register.file(3, PAIR),
+        Err(refusal(Code::NumberOutside, 3, 3, 0, 0))
+    );
+    register.withdraw(2)?;
+    assert_eq!(rt; entries, [Entry::Vacant, Entry::Withdrawn(PAIR)]);
     Ok(())
 }
 
@@ -51,19 +55,19 @@ fn number_outside(rt: HostRuntime) -> Result<(), Fail> {
     });
     assert_eq!(rt;
         offers.file(0, limit),
-        refused(Code::NumberOutside, 5, 0, 0)
+        Err(refusal(Code::NumberOutside, 5, 0, 0, 0))
     );
     assert_eq!(rt;
         offers.file(33, limit),
-        refused(Code::NumberOutside, 5, 33, 0)
+        Err(refusal(Code::NumberOutside, 5, 33, 0, 0))
     );
     assert_eq!(rt;
         offers.withdraw(Kind::Limit, 0),
-        refused(Code::NumberOutside, 5, 0, 0)
+        Err(refusal(Code::NumberOutside, 5, 0, 0, 0))
     );
     assert_eq!(rt;
         offers.withdraw(Kind::Limit, 33),
-        refused(Code::NumberOutside, 5, 33, 0)
+        Err(refusal(Code::NumberOutside, 5, 33, 0, 0))
     );
     offers.file(1, limit)?;
     offers.file(32, limit)?;
@@ -84,11 +88,11 @@ fn last_numbers(rt: HostRuntime) -> Result<(), Fail> {
     for (kind, tag, last, next) in kinds {
         assert_eq!(rt;
             offers.withdraw(kind, last),
-            refused(Code::NotFiled, tag, last, 0)
+            Err(refusal(Code::NotFiled, tag, last, 0, 0))
         );
         assert_eq!(rt;
             offers.withdraw(kind, next),
-            refused(Code::NumberOutside, tag, next, 0)
+            Err(refusal(Code::NumberOutside, tag, next, 0, 0))
         );
     }
     Ok(())
@@ -104,9 +108,9 @@ fn field_outside(rt: HostRuntime) -> Result<(), Fail> {
     };
     assert_eq!(rt;
         offers.file(64, Offer::Band(band)),
-        refused(Code::FieldOutside, 2, 64, 3)
+        Err(refusal(Code::FieldOutside, 2, 64, 3, 0))
     );
-    let entry = offers.bands[63];
+    let entry = offers.bands.entries[63];
     assert_eq!(rt; entry, Entry::Vacant);
     Ok(())
 }
@@ -117,9 +121,9 @@ fn already_open(rt: HostRuntime) -> Result<(), Fail> {
     offers.file(7, Offer::Pair(PAIR))?;
     assert_eq!(rt;
         offers.file(7, Offer::Pair(OTHER_PAIR)),
-        refused(Code::AlreadyOpen, 3, 7, 0)
+        Err(refusal(Code::AlreadyOpen, 3, 7, 0, 0))
     );
-    let entry = offers.pairs[6];
+    let entry = offers.pairs.entries[6];
     assert_eq!(rt; entry, Entry::Open(PAIR));
     Ok(())
 }
@@ -131,13 +135,13 @@ fn already_withdrawn(rt: HostRuntime) -> Result<(), Fail> {
     offers.withdraw(Kind::Pair, 7)?;
     assert_eq!(rt;
         offers.file(7, Offer::Pair(OTHER_PAIR)),
-        refused(Code::AlreadyWithdrawn, 3, 7, 0)
+        Err(refusal(Code::AlreadyWithdrawn, 3, 7, 0, 0))
     );
     assert_eq!(rt;
         offers.withdraw(Kind::Pair, 7),
-        refused(Code::AlreadyWithdrawn, 3, 7, 0)
+        Err(refusal(Code::AlreadyWithdrawn, 3, 7, 0, 0))
     );
-    let entry = offers.pairs[6];
+    let entry = offers.pairs.entries[6];
     assert_eq!(rt; entry, Entry::Withdrawn(PAIR));
     Ok(())
 }
@@ -147,9 +151,9 @@ fn not_filed(rt: HostRuntime) -> Result<(), Fail> {
     let mut offers = Offers::vacant();
     assert_eq!(rt;
         offers.withdraw(Kind::Exclusion, 64),
-        refused(Code::NotFiled, 4, 64, 0)
+        Err(refusal(Code::NotFiled, 4, 64, 0, 0))
     );
-    let entry = offers.exclusions[63];
+    let entry = offers.exclusions.entries[63];
     assert_eq!(rt; entry, Entry::Vacant);
     Ok(())
 }
@@ -169,13 +173,13 @@ fn order_of_checks(rt: HostRuntime) -> Result<(), Fail> {
     offers.file(1, Offer::Exclusion(member))?;
     assert_eq!(rt;
         offers.file(65, Offer::Exclusion(stray)),
-        refused(Code::NumberOutside, 4, 65, 0)
+        Err(refusal(Code::NumberOutside, 4, 65, 0, 0))
     );
     assert_eq!(rt;
         offers.file(1, Offer::Exclusion(stray)),
-        refused(Code::FieldOutside, 4, 1, 2)
+        Err(refusal(Code::FieldOutside, 4, 1, 2, 0))
     );
-    let entry = offers.exclusions[0];
+    let entry = offers.exclusions.entries[0];
     assert_eq!(rt; entry, Entry::Open(member));
     Ok(())
 }

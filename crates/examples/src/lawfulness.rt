@@ -1,9 +1,9 @@
 // What choices of the four-package round are worth, and each rule of lawfulness just kept and just broken.
-use crate::worked::{four_packages, limit, package};
+use crate::worked::{excluded, four_packages, limit, needs, package, refusal};
 use clearing::dockets::Docket;
 use clearing::lawful::{is_lawful, worth};
 use offers::memory::{Offer, Offers};
-use offers::records::{Exclusion, Package, Pair};
+use offers::records::Package;
 use offers::refusals::{Code, Refusal};
 use pricing::filed::Filed;
 use pricing::numbers::ZoneNumbers;
@@ -45,20 +45,8 @@ fn published_example(rt: HostRuntime) -> Result<(), Fail> {
 #[test]
 fn pairs(rt: HostRuntime) -> Result<(), Fail> {
     let mut offers = four_packages(0, 0)?;
-    offers.file(
-        1,
-        Offer::Pair(Pair {
-            dependent: 3,
-            needed: 2,
-        }),
-    )?;
-    offers.file(
-        2,
-        Offer::Pair(Pair {
-            dependent: 4,
-            needed: 40,
-        }),
-    )?;
+    offers.file(1, needs(3, 2))?;
+    offers.file(2, needs(4, 40))?;
     check_worth(
         &rt,
         &offers,
@@ -75,27 +63,9 @@ fn pairs(rt: HostRuntime) -> Result<(), Fail> {
 #[test]
 fn exclusions(rt: HostRuntime) -> Result<(), Fail> {
     let mut offers = four_packages(0, 0)?;
-    offers.file(
-        1,
-        Offer::Exclusion(Exclusion {
-            group: 1,
-            member: 1,
-        }),
-    )?;
-    offers.file(
-        2,
-        Offer::Exclusion(Exclusion {
-            group: 1,
-            member: 3,
-        }),
-    )?;
-    offers.file(
-        3,
-        Offer::Exclusion(Exclusion {
-            group: 1,
-            member: 3,
-        }),
-    )?;
+    offers.file(1, excluded(1))?;
+    offers.file(2, excluded(3))?;
+    offers.file(3, excluded(3))?;
     check_worth(
         &rt,
         &offers,
@@ -207,12 +177,8 @@ fn price_fault(rt: HostRuntime) -> Result<(), Fail> {
     assert_eq!(rt;
         docket.close(&offers, &mut rule),
         Err(Refusal {
-            code: Code::PriceFault,
-            tag: 1,
-            number: 7,
-            field: 0,
-            byte: 0,
             depth: 3,
+            ..refusal(Code::PriceFault, 1, 7, 0, 0)
         })
     );
     Ok(())

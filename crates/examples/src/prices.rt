@@ -1,5 +1,5 @@
 // Prices by the filed, the place and the currency rule, and their faults.
-use crate::worked::package;
+use crate::worked::{package, refusal};
 use offers::records::Package;
 use offers::refusals::{Code, Refusal};
 use pricing::currency::Currency;
@@ -77,14 +77,6 @@ fn faults(rt: HostRuntime) -> Result<(), Fail> {
 
 #[test]
 fn numbers_out_of_range(rt: HostRuntime) -> Result<(), Fail> {
-    let refused = Refusal {
-        code: Code::FieldOutside,
-        tag: 0,
-        number: 0,
-        field: 0,
-        byte: 0,
-        depth: 0,
-    };
     for (number, preference, expectation) in [
         (1_001, 10_000, 10_000),
         (-1_001, 10_000, 10_000),
@@ -93,10 +85,10 @@ fn numbers_out_of_range(rt: HostRuntime) -> Result<(), Fail> {
         (0, 10_000, 4_999),
         (0, 10_000, 20_001),
     ] {
-        match stack(number, preference, expectation) {
-            Ok(_) => return Err(Fail::new("accepted")),
-            Err(refusal) => assert_eq!(rt; refusal, refused),
-        }
+        assert_eq!(rt;
+            stack(number, preference, expectation).err(),
+            Some(refusal(Code::FieldOutside, 0, 0, 0, 0))
+        );
     }
     assert!(rt; stack(1_000, 11_000, 20_000).is_ok());
     assert!(rt; stack(-1_000, 10_000, 5_000).is_ok());

@@ -1,4 +1,5 @@
 // Sheets: every offence at several places, their order, the fullest sheet, and how a withdrawal travels.
+use crate::worked::refusal;
 use offers::memory::{Kind, Offer, Offers};
 use offers::records::{Band, Exclusion, Limit, Package, Pair};
 use offers::refusals::{Code, Refusal};
@@ -77,17 +78,6 @@ fn sheet() -> Result<[u8; END], Refusal> {
     Ok(bytes)
 }
 
-fn refusal(code: Code, tag: u8, number: u8, field: u8, byte: usize) -> Refusal {
-    Refusal {
-        code,
-        tag,
-        number,
-        field,
-        byte,
-        depth: 0,
-    }
-}
-
 // The sheet with one byte changed is refused so, by a round that has nothing.
 fn check_changed(rt: &impl Abort, rows: &[(usize, u8, Refusal)]) -> Result<(), Fail> {
     for (at, byte, expected) in rows {
@@ -96,7 +86,7 @@ fn check_changed(rt: &impl Abort, rows: &[(usize, u8, Refusal)]) -> Result<(), F
         bytes[*at] = *byte;
         let mut offers = Offers::vacant();
         assert_eq!(rt; catch_up(&mut offers, &bytes), Err(*expected));
-        let entry = offers.packages[0];
+        let entry = offers.packages.entries[0];
         assert_eq!(rt; entry, Entry::Vacant);
     }
     Ok(())
@@ -258,7 +248,7 @@ fn fullest_sheet(rt: HostRuntime) -> Result<(), Fail> {
     assert_eq!(rt; write_sheet(&offers, &mut bytes), Ok(3584));
     let mut other = Offers::vacant();
     catch_up(&mut other, &bytes)?;
-    let entry = other.packages[39];
+    let entry = other.packages.entries[39];
     assert_eq!(rt; entry, Entry::Withdrawn(PACKAGE));
     let mut again = [0u8; 3584];
     assert_eq!(rt; write_sheet(&other, &mut again), Ok(3584));
@@ -273,9 +263,9 @@ fn an_older_sheet(rt: HostRuntime) -> Result<(), Fail> {
     let mut offers = offered()?;
     offers.withdraw(Kind::Package, 2)?;
     catch_up(&mut offers, &older)?;
-    let entry = offers.packages[0];
+    let entry = offers.packages.entries[0];
     assert_eq!(rt; entry, Entry::Open(PACKAGE));
-    let entry = offers.packages[1];
+    let entry = offers.packages.entries[1];
     assert_eq!(rt; entry, Entry::Withdrawn(PACKAGE));
     let mut dearer = older;
     dearer[SECOND + 28] = 21;

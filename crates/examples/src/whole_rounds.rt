@@ -1,9 +1,8 @@
 // Whole rounds, from a sheet to the text of its award or its refusal.
-use crate::worked::{four_packages, limit, two_packages};
+use crate::worked::{excluded, four_packages, limit, needs, refusal, two_packages};
 use clearing::dockets::Docket;
-use offers::memory::{Kind, Offer, Offers};
-use offers::records::{Exclusion, Pair};
-use offers::refusals::{Code, Refusal};
+use offers::memory::{Kind, Offers};
+use offers::refusals::Code;
 use rounds::report::RefusedSheet;
 use rounds::sheet_round::{Progress, Stop, award_sheet, clear_sheet};
 use sheets::writing::write_sheet;
@@ -29,13 +28,11 @@ fn check_award<R: Abort + AllocGlobal>(
     let mut sheet = [0u8; 256];
     assert!(rt; length <= 256);
     assert_eq!(rt; write_sheet(offers, &mut sheet), Ok(length));
-    match clear_sheet(heap, &sheet[0..length], &mut Silent) {
-        Ok(report) => {
-            assert_eq!(rt; report.to_string(heap)?.as_str(), lines);
-            Ok(())
-        },
-        Err(_) => Err(Fail::new("refused")),
-    }
+    let Ok(report) = clear_sheet(heap, &sheet[0..length], &mut Silent) else {
+        return Err(Fail::new("refused"));
+    };
+    assert_eq!(rt; report.to_string(heap)?.as_str(), lines);
+    Ok(())
 }
 
 #[test]
@@ -65,14 +62,6 @@ fn package_3_withdrawn(rt: HostRuntime) -> Result<(), Fail> {
         band 1 sold 50\nband 2 sold 30\nband 3 sold 150000\n\
         band 4 sold 0\nband 5 sold 150000\nband 6 sold 0\nsurplus 87500000\n";
     check_award(&rt, &offers, 228, lines)
-}
-
-fn excluded(member: u8) -> Offer {
-    Offer::Exclusion(Exclusion { group: 1, member })
-}
-
-fn needs(dependent: u8, needed: u8) -> Offer {
-    Offer::Pair(Pair { dependent, needed })
 }
 
 // The four-package round under two rules more: all packages with a mark, the third with a date, and what is awarded.
@@ -105,33 +94,16 @@ fn a_number_twice(rt: HostRuntime) -> Result<(), Fail> {
     let mut sheet = [0u8; 86];
     write_sheet(&two_packages()?, &mut sheet)?;
     sheet[39] = 1;
-    let refused = Refusal {
-        code: Code::NotRising,
-        tag: 1,
-        number: 1,
-        field: 0,
-        byte: 36,
-        depth: 0,
+    let Err(Stop::Refused(refused)) = clear_sheet(rt.alloc(), &sheet, &mut Silent) else {
+        return Err(Fail::new("not refused"));
     };
-    match clear_sheet(rt.alloc(), &sheet, &mut Silent) {
-        Err(Stop::Refused(refusal)) => {
-            assert_eq!(rt; refusal, refused);
-            Ok(())
-        },
-        _ => Err(Fail::new("not refused")),
-    }
+    assert_eq!(rt; refused, refusal(Code::NotRising, 1, 1, 0, 36));
+    Ok(())
 }
 
 #[test]
 fn a_refusal_in_text(rt: HostRuntime) -> Result<(), Fail> {
-    let refused = Refusal {
-        code: Code::NotRising,
-        tag: 1,
-        number: 1,
-        field: 0,
-        byte: 36,
-        depth: 0,
-    };
+    let refused = refusal(Code::NotRising, 1, 1, 0, 36);
     assert_eq!(rt;
         RefusedSheet(refused).to_string(rt.alloc())?.as_str(),
         "refused 8 at 36\n"

@@ -1,7 +1,18 @@
-// The worked rounds, as offers.
+// The worked rounds as offers, and what all tests are written with.
 use offers::memory::{Offer, Offers};
-use offers::records::{Band, Limit, Package};
-use offers::refusals::Refusal;
+use offers::records::{Band, Exclusion, Limit, Package, Pair};
+use offers::refusals::{Code, Refusal};
+
+// A refusal of any call but a closing, which alone tells of a price rule's depth.
+pub fn refusal(code: Code, tag: u8, number: u8, field: u8, byte: usize) -> Refusal {
+    Refusal {
+        tag,
+        number,
+        field,
+        byte,
+        ..Refusal::of(code)
+    }
+}
 
 // A package with all zones 1, and nothing dated, unqualified or in dollars.
 pub fn package(power: u32, energy: u32, certificates: u32, price: u64) -> Package {
@@ -27,6 +38,15 @@ pub fn band(market: u8, quantity: u32, price: u32) -> Offer {
         quantity,
         price,
     })
+}
+
+pub fn needs(dependent: u8, needed: u8) -> Offer {
+    Offer::Pair(Pair { dependent, needed })
+}
+
+// A member of the first group.
+pub fn excluded(member: u8) -> Offer {
+    Offer::Exclusion(Exclusion { group: 1, member })
 }
 
 pub fn limit(sort: u8, zone: u8, amount: u32) -> Offer {
@@ -57,38 +77,25 @@ pub fn six_bands() -> Result<Offers, Refusal> {
 // The four packages with the six bands, all packages with this mark and the third with this date.
 pub fn four_packages(unqualified: u8, date: u8) -> Result<Offers, Refusal> {
     let mut offers = six_bands()?;
-    let first = package(30, 120_000, 120_000, 120_000_000);
-    let second = package(20, 0, 0, 15_000_000);
-    let third = package(20, 90_000, 90_000, 60_000_000);
-    let fourth = package(30, 30_000, 30_000, 45_000_000);
-    offers.file(
-        1,
-        Offer::Package(Package {
-            unqualified,
-            ..first
-        }),
-    )?;
-    offers.file(
-        2,
-        Offer::Package(Package {
-            unqualified,
-            ..second
-        }),
-    )?;
-    offers.file(
-        3,
-        Offer::Package(Package {
-            unqualified,
-            date,
-            ..third
-        }),
-    )?;
-    offers.file(
-        4,
-        Offer::Package(Package {
-            unqualified,
-            ..fourth
-        }),
-    )?;
+    for (number, package) in [
+        (1, package(30, 120_000, 120_000, 120_000_000)),
+        (2, package(20, 0, 0, 15_000_000)),
+        (
+            3,
+            Package {
+                date,
+                ..package(20, 90_000, 90_000, 60_000_000)
+            },
+        ),
+        (4, package(30, 30_000, 30_000, 45_000_000)),
+    ] {
+        offers.file(
+            number,
+            Offer::Package(Package {
+                unqualified,
+                ..package
+            }),
+        )?;
+    }
     Ok(offers)
 }

@@ -1,5 +1,5 @@
 -- What holds of one register lifted to the entries of every kind. Assumes nothing.
-use Rattle.std.proofs.Common.{◌≡◌, ℕ, List, get_or, Result, refl, ap, ◌∙◌}
+use Rattle.std.proofs.Common.{◌≡◌, ℕ, List, get_or, Result, refl, sym, ap, ◌∙◌}
 use Rattle.offers.specs.declared.refusals.Refusal.{Refusal}
 use Rattle.offers.specs.declared.registers.Entry.{Entry}
 use Rattle.offers.specs.declared.registers.Entry.TheVariants.{Vacant}
@@ -79,10 +79,30 @@ withdraw_kept all k n =
     (withdrawing_moved (layout_of k) (entries_of all k) n)
     (withdrawing_fair (layout_of k) (entries_of all k) n)
 
--- the same of an answer and entries that are those of filing
-pub filed_kept : (all : Entries) (n : ℕ) (x : Offer) (answer : Result Unit Refusal) (after : Entries) → answer ≡ (file_offer all n x).answer → after ≡ (file_offer all n x).left → Kept all answer after
-filed_kept all n x answer after e f = rw (e, f) (file_kept all n x)
+-- What a call on one kind's entries does, said of all offers: its outcome, and what every call keeps.
+pub record Done (all : Entries) (call : Outcome Entries) (answer : Result Unit Refusal) (after : Entries) : Type 0 where
+  pub answer_is : answer ≡ call.answer
+  pub after_is : after ≡ call.left
+  pub kept : Kept all answer after
 
--- the same of an answer and entries that are those of withdrawing
-pub withdrawn_kept : (all : Entries) (k : Kind) (n : ℕ) (answer : Result Unit Refusal) (after : Entries) → answer ≡ (withdraw_offer all k n).answer → after ≡ (withdraw_offer all k n).left → Kept all answer after
-withdrawn_kept all k n answer after e f = rw (e, f) (withdraw_kept all k n)
+-- a call that keeps what every call keeps, and is the one on this kind's entries
+done : (all : Entries) (k : Kind) (o : Outcome (List (Entry (RecordOf k)))) (call : Outcome Entries) → call ≡ lifted all k o → Kept all call.answer call.left
+    → (answer : Result Unit Refusal) (es : List (Entry (RecordOf k))) → answer ≡ o.answer → es ≡ o.left → Done all call answer (with_entries all k es)
+done all k o call is kept answer es e f =
+    let a : answer ≡ call.answer = e ∙ ap (λ (c : Outcome Entries). c.answer) (sym is) in
+    let l : with_entries all k es ≡ call.left = ap (with_entries all k) f ∙ ap (λ (c : Outcome Entries). c.left) (sym is) in
+    record { answer_is = a; after_is = l; kept = rw (a, l) kept }
+
+-- filing in the entries of a kind
+pub filed : (all : Entries) (n : ℕ) (x : Offer) (k : Kind) (r : RecordOf k) → file_offer all n x ≡ file_kind all n k r
+    → (answer : Result Unit Refusal) (es : List (Entry (RecordOf k)))
+    → answer ≡ (filing (layout_of k) (entries_of all k) n r).answer → es ≡ (filing (layout_of k) (entries_of all k) n r).left
+    → Done all (file_offer all n x) answer (with_entries all k es)
+filed all n x k r is = done all k (filing (layout_of k) (entries_of all k) n r) (file_offer all n x) is (file_kept all n x)
+
+-- withdrawing in the entries of a kind
+pub withdrawn : (all : Entries) (j : Kind) (n : ℕ) (k : Kind) → j ≡ k → (answer : Result Unit Refusal) (es : List (Entry (RecordOf k)))
+    → answer ≡ (withdrawing (layout_of k) (entries_of all k) n).answer → es ≡ (withdrawing (layout_of k) (entries_of all k) n).left
+    → Done all (withdraw_offer all j n) answer (with_entries all k es)
+withdrawn all j n k is =
+    done all k (withdrawing (layout_of k) (entries_of all k) n) (withdraw_offer all j n) (ap (λ i. withdraw_offer all i n) is) (withdraw_kept all j n)

@@ -1,7 +1,8 @@
 -- Filing and withdrawing keep what every call on a register keeps, for any kind. Assumes nothing.
-use Rattle.std.proofs.Common.{◌≡◌, ℕ, zero, suc, ◌-◌, ◌<◌, ◌≤◌, min, true, eqb, leb, ◌⊎◌, List, length, get_or, set, replicate, Ok, Err, Result, refl, subst, inl, inr, ⊎_elim, arith, length-set}
+use Rattle.std.proofs.Common.{◌≡◌, ℕ, ◌-◌, ◌<◌, ◌≤◌, min, Bool, true, false, cond, eqb, leb, ◌⊎◌, List, length, get_or, set, Some, None, Ok, Err, Result, refl, subst, inl, inr, ⊎_elim, arith, length-set}
 use Rattle.std.proofs.lemmas.List.{get_or-set_same, get_or-set_other, set_past}
-use Rattle.std.proofs.lemmas.Bool.{cond_both, cases_eq, cases_lt, and_parts, leb-true, eqb-true}
+use Rattle.std.proofs.lemmas.Option.{none-some}
+use Rattle.std.proofs.lemmas.Bool.{cond_both, cases_eq, cases_lt, and_parts, leb-true}
 use Rattle.offers.specs.declared.refusals.Code.{Code}
 use Rattle.offers.specs.declared.refusals.Code.TheVariants.{NumberOutside, FieldOutside, AlreadyOpen, AlreadyWithdrawn, NotFiled}
 use Rattle.offers.specs.declared.refusals.Refusal.{Refusal}
@@ -9,7 +10,7 @@ use Rattle.offers.specs.declared.registers.Entry.{Entry}
 use Rattle.offers.specs.declared.registers.Entry.TheVariants.{Vacant, Open, Withdrawn}
 use Rattle.offers.specs.Refusals.{refused_at, Carries}
 use Rattle.offers.specs.Layouts.{Layout, fault_of}
-use Rattle.offers.specs.Registers.{Outcome, entry, numbered, filing, file_over, withdrawing, withdraw_over, refuse, Onward, Moved, held_fault, InRange}
+use Rattle.offers.specs.Registers.{Outcome, entry, numbered, place, filing, file_over, withdrawing, withdraw_over, refuse, Onward, Moved, held_fault, InRange}
 
 -- an entry that stays has gone no step back
 pub onward-same : {R : Type 0} (e : Entry R) → Onward e e
@@ -59,6 +60,14 @@ module _ {R : Type 0} (k : Layout R) (es : List (Entry R)) (n : ℕ) where
       let low : 1 ≤ n = leb-true 1 n parts.0 in
       let high : n ≤ min k.count (length es) = leb-true n (min k.count (length es)) parts.1 in
       (low, omega arith)
+
+  -- so has the place that is found for it
+  pub found : (at : ℕ) → place k es n ≡ Some at → (numbered k es n ≡ true) × (at ≡ n - 1)
+  found at e = by (numbered k es n) e
+    where
+      by : (b : Bool) → cond b (Some (n - 1)) None ≡ Some at → (b ≡ true) × (at ≡ n - 1)
+      by true e = (refl, cc)
+      by false e = absurd (none-some at e)
 
   over-filed : (r : R) → 1 ≤ n → n ≤ length es → (held : Entry R) → entry es n ≡ held → Moves es n (file_over k es n r held)
   over-filed r low high Vacant e = accepted_moved es n (Open r) low high (rw e tt)
@@ -134,44 +143,3 @@ set-in_range k es at e ok new i = ⊎_elim here there (cases_eq i at)
 
     there : (i ≡ at → ⊥) → held_fault k (get_or (set es at e) i Vacant) ≡ 0
     there ne = rw (get_or-set_other es at i e Vacant ne) (ok i)
-
--- what a call leaves of a register whose records are in range
-abbrev Ranged : {R : Type 0} → Layout R → Outcome (List (Entry R)) → Type 0
-Ranged k o = InRange k o.left
-
-module _ {R : Type 0} (k : Layout R) (es : List (Entry R)) (n : ℕ) (ok : InRange k es) where
-  over-filed-ranged : (r : R) → fault_of k r ≡ 0 → (held : Entry R) → Ranged k (file_over k es n r held)
-  over-filed-ranged r fine Vacant = set-in_range k es (n - 1) (Open r) ok fine
-  over-filed-ranged r fine (Open old) = ok
-  over-filed-ranged r fine (Withdrawn old) = ok
-
-  -- filing checks the new record, and leaves the others
-  pub filing-ranged : (r : R) → InRange k (filing k es n r).left
-  filing-ranged r =
-      cond_both (numbered k es n) _ _ (Ranged k)
-      (λ _. cond_both (eqb (fault_of k r) 0) _ _ (Ranged k)
-      (λ e. over-filed-ranged r (eqb-true (fault_of k r) 0 e) (entry es n))
-      (λ _. ok))
-      (λ _. ok)
-
-  over-withdrawn-ranged : (held : Entry R) → held_fault k held ≡ 0 → Ranged k (withdraw_over k es n held)
-  over-withdrawn-ranged Vacant fine = ok
-  over-withdrawn-ranged (Open r) fine = set-in_range k es (n - 1) (Withdrawn r) ok fine
-  over-withdrawn-ranged (Withdrawn r) fine = ok
-
-  -- withdrawing keeps every record
-  pub withdrawing-ranged : InRange k (withdrawing k es n).left
-  withdrawing-ranged =
-      cond_both (numbered k es n) _ _ (Ranged k)
-      (λ _. over-withdrawn-ranged (entry es n) (ok (n - 1)))
-      (λ _. ok)
-
--- where every number is vacant there is no record out of range
-pub vacant-ranged : {R : Type 0} (k : Layout R) (n : ℕ) → InRange k (replicate n Vacant)
-vacant-ranged k zero i = refl
-vacant-ranged k (suc n) zero = refl
-vacant-ranged k (suc n) (suc i) = vacant-ranged k n i
-
--- entries that are those in range are in range
-pub ranged_as : {R : Type 0} (k : Layout R) (es is : List (Entry R)) → es ≡ is → InRange k is → InRange k es
-ranged_as k es is e ok = rw e ok

@@ -11,15 +11,15 @@ pub sound-held : (os : Offers) → Sound (held os)
 sound-held os = record { in_range = ranged; numbered = long }
   where
     ranged : (k : Kind) → InRange (layout_of k) (entries_of (held os) k)
-    ranged kind.Package = os.packages_in_range
-    ranged kind.Band = os.bands_in_range
-    ranged kind.Pair = os.pairs_in_range
-    ranged kind.Exclusion = os.exclusions_in_range
-    ranged kind.Limit = os.limits_in_range
+    ranged kind.Package = os.packages.in_range
+    ranged kind.Band = os.bands.in_range
+    ranged kind.Pair = os.pairs.in_range
+    ranged kind.Exclusion = os.exclusions.in_range
+    ranged kind.Limit = os.limits.in_range
 
     long : (k : Kind) → length (entries_of (held os) k) ≡ (layout_of k).count
-    long kind.Package = os.packages_numbered
-    long kind.Band = os.bands_numbered
-    long kind.Pair = os.pairs_numbered
-    long kind.Exclusion = os.exclusions_numbered
-    long kind.Limit = os.limits_numbered
+    long kind.Package = os.packages.numbered
+    long kind.Band = os.bands.numbered
+    long kind.Pair = os.pairs.numbered
+    long kind.Exclusion = os.exclusions.numbered
+    long kind.Limit = os.limits.numbered

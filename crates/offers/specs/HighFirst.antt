@@ -6,7 +6,7 @@ use borrow.Rule.Slice.PartMut.{put_mid}
 use Rattle.std.proofs.Math.Arith.{mod-mul}
 use Rattle.std.specs.Int.Digits.{number_from_digits, number_from_digits_after}
 use Rattle.std.proofs.lemmas.Int.Digits.{number_more, number_after_append}
-use Rattle.std.proofs.lemmas.List.{get_or-drop, length-drop, length-take, drop-drop, take_all}
+use Rattle.std.proofs.lemmas.List.{take_all, length-take, length-drop, drop-drop, get_or-drop}
 use Rattle.std.proofs.lemmas.Slice.{take-put_mid, drop-put_mid}
 use Rattle.offers.specs.Fields.{high_first}
 

@@ -1,7 +1,9 @@
 -- The laws of the five kinds of record.
-use Rattle.std.specs.Prelude.{◌≡◌, ℕ, ◌<◌, Bool, true, false, cond, nat_le, refl}
-use Rattle.std.proofs.Common.{arith, rules}
+use Rattle.std.specs.Prelude.{◌≡◌, ℕ, ◌<◌, Bool, true, false, cond, nat_le, ◌&&◌, ◌==◌, Decides, refl}
+use Rattle.std.proofs.Common.{ap, arith, rules}
 use Rattle.std.proofs.lemmas.Bool.{and_parts, leb-true}
+use Rattle.std.proofs.lemmas.Bool.Decides.{Decides-and, Decides-eqb}
+use Rattle.offers.specs.declared.records.Package.{Package}
 use Rattle.offers.specs.Fields.{within}
 use Rattle.offers.specs.Layouts.{Lawful}
 use Rattle.offers.specs.Tables.{package_layout, band_layout, pair_layout, exclusion_layout, limit_layout}
@@ -36,3 +38,21 @@ exclusion_lawful = lawful exclusion_layout (λ e. refl) (λ e. search (rules, fi
 -- a limit's sort says which range its zone and its amount have
 pub limit_lawful : Lawful limit_layout
 limit_lawful = lawful limit_layout (λ l. refl) (λ l. search (rules, fits, fits_either))
+
+-- equal fields make equal packages
+pub package_known : (p q : Package) → Decides (p.power == q.power && (p.energy == q.energy && (p.certificates == q.certificates && (p.nameplate == q.nameplate && (p.price == q.price && (p.power_zone == q.power_zone && (p.interconnection_zone == q.interconnection_zone && (p.export_zone == q.export_zone && (p.price_zone == q.price_zone && (p.date == q.date && (p.unqualified == q.unqualified && (p.dollar == q.dollar)))))))))))) (p ≡ q)
+package_known p q =
+    let each =
+    Decides-and (p.power == q.power) _ (Decides-eqb p.power q.power) (
+    Decides-and (p.energy == q.energy) _ (Decides-eqb p.energy q.energy) (
+    Decides-and (p.certificates == q.certificates) _ (Decides-eqb p.certificates q.certificates) (
+    Decides-and (p.nameplate == q.nameplate) _ (Decides-eqb p.nameplate q.nameplate) (
+    Decides-and (p.price == q.price) _ (Decides-eqb p.price q.price) (
+    Decides-and (p.power_zone == q.power_zone) _ (Decides-eqb p.power_zone q.power_zone) (
+    Decides-and (p.interconnection_zone == q.interconnection_zone) _ (Decides-eqb p.interconnection_zone q.interconnection_zone) (
+    Decides-and (p.export_zone == q.export_zone) _ (Decides-eqb p.export_zone q.export_zone) (
+    Decides-and (p.price_zone == q.price_zone) _ (Decides-eqb p.price_zone q.price_zone) (
+    Decides-and (p.date == q.date) _ (Decides-eqb p.date q.date) (
+    Decides-and (p.unqualified == q.unqualified) _ (Decides-eqb p.unqualified q.unqualified) (
+    Decides-eqb p.dollar q.dollar))))))))))) in
+    (λ e. let same = each.0 e in λ i. record { power = same.0 i; energy = same.1.0 i; certificates = same.1.1.0 i; nameplate = same.1.1.1.0 i; price = same.1.1.1.1.0 i; power_zone = same.1.1.1.1.1.0 i; interconnection_zone = same.1.1.1.1.1.1.0 i; export_zone = same.1.1.1.1.1.1.1.0 i; price_zone = same.1.1.1.1.1.1.1.1.0 i; date = same.1.1.1.1.1.1.1.1.1.0 i; unqualified = same.1.1.1.1.1.1.1.1.1.1.0 i; dollar = same.1.1.1.1.1.1.1.1.1.1.1 i }, λ e. each.1 (let back = λ (f : Package → ℕ). ap f e in (back (λ r. r.power), (back (λ r. r.energy), (back (λ r. r.certificates), (back (λ r. r.nameplate), (back (λ r. r.price), (back (λ r. r.power_zone), (back (λ r. r.interconnection_zone), (back (λ r. r.export_zone), (back (λ r. r.price_zone), (back (λ r. r.date), (back (λ r. r.unqualified), back (λ r. r.dollar))))))))))))))

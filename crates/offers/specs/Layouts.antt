@@ -1,5 +1,5 @@
 -- What a kind of record is: its tag, its count of offer numbers and its fields; and the laws that it owes. Assumes nothing.
-use Rattle.std.specs.Prelude.{◌≡◌, ℕ, List, length}
+use Rattle.std.specs.Prelude.{◌≡◌, ℕ, zero, suc, List, length, Option, Some, None}
 use Rattle.offers.specs.Fields.{Field, widths, bytes_by, values_by, allowed_by, first_false}
 
 pub record Layout (R : Type 0) : Type 0 where
@@ -25,6 +25,11 @@ read_from k bs = k.record_of (values_by k.fields bs)
 -- the first field out of range, 0 where there is none; field 1 is an entry's status, so a record's first is 2
 abbrev pub fault_of : {R : Type 0} → Layout R → R → ℕ
 fault_of k r = first_false 2 (allowed_by k.fields r)
+
+-- a field's number where there is one, none for 0
+abbrev pub numbered_field : ℕ → Option ℕ
+numbered_field zero = None
+numbered_field (suc n) = Some (suc n)
 
 -- what every kind owes
 pub record Lawful {R : Type 0} (k : Layout R) : Type 0 where

@@ -4,6 +4,7 @@ pub mod Layouts
 pub mod Tables
 pub mod Registers
 pub mod Memory
+pub mod Marks
 pub mod LawfulKinds
 pub mod LawfulLayouts
 pub mod HighFirst

@@ -28,7 +28,13 @@ pub record Entries : Type 0 where
 
 -- what a round holds of its offers
 abbrev pub held : Offers → Entries
-held os = record { packages = os.packages; bands = os.bands; pairs = os.pairs; exclusions = os.exclusions; limits = os.limits }
+held os = record {
+  packages = os.packages.entries;
+  bands = os.bands.entries;
+  pairs = os.pairs.entries;
+  exclusions = os.exclusions.entries;
+  limits = os.limits.entries;
+}
 
 -- the records of a kind
 abbrev pub RecordOf : Kind → Type 0

@@ -1,5 +1,5 @@
 -- What filing and withdrawing do to the entries of one register, of whatever kind. Assumes nothing.
-use Rattle.std.specs.Prelude.{◌≡◌, ℕ, ◌+◌, ◌-◌, min, Bool, cond, ◌⊎◌, List, length, Ok, Err, Result, ◌==◌, ◌≢◌, slice_index_or, slice_set}
+use Rattle.std.specs.Prelude.{◌≡◌, ℕ, ◌+◌, ◌-◌, min, Bool, true, false, cond, ◌⊎◌, List, length, Some, None, Option, Ok, Err, Result, ◌==◌, ◌≢◌, slice_index_or, slice_set}
 use Rattle.offers.specs.declared.refusals.Code.{Code}
 use Rattle.offers.specs.declared.refusals.Code.TheVariants.{NumberOutside, FieldOutside, AlreadyOpen, AlreadyWithdrawn, NotFiled}
 use Rattle.offers.specs.declared.refusals.Refusal.{Refusal}
@@ -14,6 +14,11 @@ pub record Outcome (A : Type 0) : Type 0 where
   pub answer : Result Unit Refusal
   pub left : A
 
+abbrev pub is_vacant : {R : Type 0} → Entry R → Bool
+is_vacant Vacant = true
+is_vacant (Open r) = false
+is_vacant (Withdrawn r) = false
+
 -- the entry of an offer number; a number that has none counts as vacant
 abbrev pub entry : {R : Type 0} → List (Entry R) → ℕ → Entry R
 entry es n = slice_index_or es (n - 1) Vacant
@@ -21,6 +26,10 @@ entry es n = slice_index_or es (n - 1) Vacant
 -- an offer number has an entry if it is one of its kind's and the register is that long
 abbrev pub numbered : {R : Type 0} → Layout R → List (Entry R) → ℕ → Bool
 numbered k es n = within 1 (min k.count (length es)) n
+
+-- the place of its entry
+abbrev pub place : {R : Type 0} → Layout R → List (Entry R) → ℕ → Option ℕ
+place k es n = cond (numbered k es n) (Some (n - 1)) None
 
 abbrev pub refuse : {R : Type 0} → Layout R → List (Entry R) → Code → ℕ → ℕ → Outcome (List (Entry R))
 refuse k es code n field = record { answer = Err (refused_at code k.tag n field); left = es }

@@ -1,9 +1,12 @@
 // The five kinds: each with its tag, its length, its count of offer numbers, its ranges and its bytes.
+ghost use Rattle.std.specs.Prelude.{refl};
+ghost use Rattle.std.proofs.Common.{rules};
 ghost use Rattle.offers.specs.Tables.{package_layout, band_layout, pair_layout, exclusion_layout, limit_layout};
-ghost use Rattle.offers.specs.LawfulKinds.{package_lawful, band_lawful, pair_lawful, exclusion_lawful, limit_lawful};
+ghost use Rattle.offers.specs.LawfulKinds.{package_known, package_lawful, band_lawful, pair_lawful, exclusion_lawful, limit_lawful};
 
+use crate::marks::Sort;
 use crate::records::{Band, Exclusion, Limit, Package, Pair, Record};
-use crate::words::{first_outside, put_u8, put_u32, put_u64, u8_at, u32_at, u64_at, within};
+use crate::words::{first_outside, number_at, put, within};
 
 impl Record for Package {
     const TAG: u8 = 1;
@@ -12,23 +15,25 @@ impl Record for Package {
 
     const COUNT: u8 = 40;
 
+    ghost TAG = { 1 };
+
+    ghost LENGTH = { 31 };
+
+    ghost COUNT = { 40 };
+
     ghost layout = { package_layout };
+
+    ghost tagged = { refl };
+
+    ghost sized = { refl };
+
+    ghost counted = { refl };
 
     ghost lawful = { package_lawful };
 
-    fn tag_byte() -> u8 {
-        Self::TAG
-    }
+    ghost known_by_fields = { package_known };
 
-    fn record_length() -> u16 {
-        Self::LENGTH
-    }
-
-    fn number_count() -> u8 {
-        Self::COUNT
-    }
-
-    fn fault(&self) -> u8 {
+    fn fault(&self) -> Option<u8> {
         first_outside(&[
             within(self.power as u64, 0, 10_000),
             within(self.energy as u64, 0, 10_000_000),
@@ -45,40 +50,36 @@ impl Record for Package {
         ])
     }
 
-    fn same_as(&self, other: &Package) -> bool {
-        *self == *other
-    }
-
     fn read(source: &[u8]) -> Package {
         Package {
-            power: u32_at(source, 0),
-            energy: u32_at(source, 4),
-            certificates: u32_at(source, 8),
-            nameplate: u32_at(source, 12),
-            price: u64_at(source, 16),
-            power_zone: u8_at(source, 24),
-            interconnection_zone: u8_at(source, 25),
-            export_zone: u8_at(source, 26),
-            price_zone: u8_at(source, 27),
-            date: u8_at(source, 28),
-            unqualified: u8_at(source, 29),
-            dollar: u8_at(source, 30),
+            power: number_at::<4>(source, 0) as u32,
+            energy: number_at::<4>(source, 4) as u32,
+            certificates: number_at::<4>(source, 8) as u32,
+            nameplate: number_at::<4>(source, 12) as u32,
+            price: number_at::<8>(source, 16),
+            power_zone: number_at::<1>(source, 24) as u8,
+            interconnection_zone: number_at::<1>(source, 25) as u8,
+            export_zone: number_at::<1>(source, 26) as u8,
+            price_zone: number_at::<1>(source, 27) as u8,
+            date: number_at::<1>(source, 28) as u8,
+            unqualified: number_at::<1>(source, 29) as u8,
+            dollar: number_at::<1>(source, 30) as u8,
         }
     }
 
     fn write(&self, out: &mut [u8]) {
-        put_u32(out, 0, self.power);
-        put_u32(out, 4, self.energy);
-        put_u32(out, 8, self.certificates);
-        put_u32(out, 12, self.nameplate);
-        put_u64(out, 16, self.price);
-        put_u8(out, 24, self.power_zone);
-        put_u8(out, 25, self.interconnection_zone);
-        put_u8(out, 26, self.export_zone);
-        put_u8(out, 27, self.price_zone);
-        put_u8(out, 28, self.date);
-        put_u8(out, 29, self.unqualified);
-        put_u8(out, 30, self.dollar);
+        put::<4>(out, 0, self.power as u64);
+        put::<4>(out, 4, self.energy as u64);
+        put::<4>(out, 8, self.certificates as u64);
+        put::<4>(out, 12, self.nameplate as u64);
+        put::<8>(out, 16, self.price);
+        put::<1>(out, 24, self.power_zone as u64);
+        put::<1>(out, 25, self.interconnection_zone as u64);
+        put::<1>(out, 26, self.export_zone as u64);
+        put::<1>(out, 27, self.price_zone as u64);
+        put::<1>(out, 28, self.date as u64);
+        put::<1>(out, 29, self.unqualified as u64);
+        put::<1>(out, 30, self.dollar as u64);
     }
 }
 
@@ -89,23 +90,25 @@ impl Record for Band {
 
     const COUNT: u8 = 64;
 
+    ghost TAG = { 2 };
+
+    ghost LENGTH = { 9 };
+
+    ghost COUNT = { 64 };
+
     ghost layout = { band_layout };
+
+    ghost tagged = { refl };
+
+    ghost sized = { refl };
+
+    ghost counted = { refl };
 
     ghost lawful = { band_lawful };
 
-    fn tag_byte() -> u8 {
-        Self::TAG
-    }
+    ghost known_by_fields = { Prim.search rules };
 
-    fn record_length() -> u16 {
-        Self::LENGTH
-    }
-
-    fn number_count() -> u8 {
-        Self::COUNT
-    }
-
-    fn fault(&self) -> u8 {
+    fn fault(&self) -> Option<u8> {
         first_outside(&[
             within(self.market as u64, 1, 5),
             within(self.quantity as u64, 1, 100_000_000),
@@ -113,22 +116,18 @@ impl Record for Band {
         ])
     }
 
-    fn same_as(&self, other: &Band) -> bool {
-        *self == *other
-    }
-
     fn read(source: &[u8]) -> Band {
         Band {
-            market: u8_at(source, 0),
-            quantity: u32_at(source, 1),
-            price: u32_at(source, 5),
+            market: number_at::<1>(source, 0) as u8,
+            quantity: number_at::<4>(source, 1) as u32,
+            price: number_at::<4>(source, 5) as u32,
         }
     }
 
     fn write(&self, out: &mut [u8]) {
-        put_u8(out, 0, self.market);
-        put_u32(out, 1, self.quantity);
-        put_u32(out, 5, self.price);
+        put::<1>(out, 0, self.market as u64);
+        put::<4>(out, 1, self.quantity as u64);
+        put::<4>(out, 5, self.price as u64);
     }
 }
 
@@ -139,43 +138,41 @@ impl Record for Pair {
 
     const COUNT: u8 = 64;
 
+    ghost TAG = { 3 };
+
+    ghost LENGTH = { 2 };
+
+    ghost COUNT = { 64 };
+
     ghost layout = { pair_layout };
+
+    ghost tagged = { refl };
+
+    ghost sized = { refl };
+
+    ghost counted = { refl };
 
     ghost lawful = { pair_lawful };
 
-    fn tag_byte() -> u8 {
-        Self::TAG
-    }
+    ghost known_by_fields = { Prim.search rules };
 
-    fn record_length() -> u16 {
-        Self::LENGTH
-    }
-
-    fn number_count() -> u8 {
-        Self::COUNT
-    }
-
-    fn fault(&self) -> u8 {
+    fn fault(&self) -> Option<u8> {
         first_outside(&[
             within(self.dependent as u64, 1, 40),
             within(self.needed as u64, 1, 40) && self.needed != self.dependent,
         ])
     }
 
-    fn same_as(&self, other: &Pair) -> bool {
-        *self == *other
-    }
-
     fn read(source: &[u8]) -> Pair {
         Pair {
-            dependent: u8_at(source, 0),
-            needed: u8_at(source, 1),
+            dependent: number_at::<1>(source, 0) as u8,
+            needed: number_at::<1>(source, 1) as u8,
         }
     }
 
     fn write(&self, out: &mut [u8]) {
-        put_u8(out, 0, self.dependent);
-        put_u8(out, 1, self.needed);
+        put::<1>(out, 0, self.dependent as u64);
+        put::<1>(out, 1, self.needed as u64);
     }
 }
 
@@ -186,43 +183,41 @@ impl Record for Exclusion {
 
     const COUNT: u8 = 64;
 
+    ghost TAG = { 4 };
+
+    ghost LENGTH = { 2 };
+
+    ghost COUNT = { 64 };
+
     ghost layout = { exclusion_layout };
+
+    ghost tagged = { refl };
+
+    ghost sized = { refl };
+
+    ghost counted = { refl };
 
     ghost lawful = { exclusion_lawful };
 
-    fn tag_byte() -> u8 {
-        Self::TAG
-    }
+    ghost known_by_fields = { Prim.search rules };
 
-    fn record_length() -> u16 {
-        Self::LENGTH
-    }
-
-    fn number_count() -> u8 {
-        Self::COUNT
-    }
-
-    fn fault(&self) -> u8 {
+    fn fault(&self) -> Option<u8> {
         first_outside(&[
             within(self.group as u64, 1, 16),
             within(self.member as u64, 1, 40),
         ])
     }
 
-    fn same_as(&self, other: &Exclusion) -> bool {
-        *self == *other
-    }
-
     fn read(source: &[u8]) -> Exclusion {
         Exclusion {
-            group: u8_at(source, 0),
-            member: u8_at(source, 1),
+            group: number_at::<1>(source, 0) as u8,
+            member: number_at::<1>(source, 1) as u8,
         }
     }
 
     fn write(&self, out: &mut [u8]) {
-        put_u8(out, 0, self.group);
-        put_u8(out, 1, self.member);
+        put::<1>(out, 0, self.group as u64);
+        put::<1>(out, 1, self.member as u64);
     }
 }
 
@@ -233,24 +228,26 @@ impl Record for Limit {
 
     const COUNT: u8 = 32;
 
+    ghost TAG = { 5 };
+
+    ghost LENGTH = { 6 };
+
+    ghost COUNT = { 32 };
+
     ghost layout = { limit_layout };
+
+    ghost tagged = { refl };
+
+    ghost sized = { refl };
+
+    ghost counted = { refl };
 
     ghost lawful = { limit_lawful };
 
-    fn tag_byte() -> u8 {
-        Self::TAG
-    }
+    ghost known_by_fields = { Prim.search rules };
 
-    fn record_length() -> u16 {
-        Self::LENGTH
-    }
-
-    fn number_count() -> u8 {
-        Self::COUNT
-    }
-
-    fn fault(&self) -> u8 {
-        let percentage = self.sort == 3;
+    fn fault(&self) -> Option<u8> {
+        let percentage = self.is_on(Sort::Percentage);
         let last_zone = if percentage { 4 } else { 16 };
         let most = if percentage { 100 } else { 1_000_000_000 };
         first_outside(&[
@@ -260,21 +257,17 @@ impl Record for Limit {
         ])
     }
 
-    fn same_as(&self, other: &Limit) -> bool {
-        *self == *other
-    }
-
     fn read(source: &[u8]) -> Limit {
         Limit {
-            sort: u8_at(source, 0),
-            zone: u8_at(source, 1),
-            amount: u32_at(source, 2),
+            sort: number_at::<1>(source, 0) as u8,
+            zone: number_at::<1>(source, 1) as u8,
+            amount: number_at::<4>(source, 2) as u32,
         }
     }
 
     fn write(&self, out: &mut [u8]) {
-        put_u8(out, 0, self.sort);
-        put_u8(out, 1, self.zone);
-        put_u32(out, 2, self.amount);
+        put::<1>(out, 0, self.sort as u64);
+        put::<1>(out, 1, self.zone as u64);
+        put::<4>(out, 2, self.amount as u64);
     }
 }

@@ -2,6 +2,8 @@
 #![tactic(auto)]
 
 pub mod kinds;
+pub mod ledgers;
+pub mod marks;
 pub mod memory;
 pub mod records;
 pub mod refusals;

@@ -1,9 +1,9 @@
 // The kinds of record that an offer can be, and what every kind owes.
-ghost use Rattle.std.specs.Prelude.{◌≡◌, length, Decides};
-ghost use Rattle.offers.specs.Layouts.{Layout, Lawful, size_of, bytes_of, read_from, fault_of};
+ghost use Rattle.std.specs.Prelude.{◌≡◌, ℕ, length, Decides};
+ghost use Rattle.offers.specs.Layouts.{Layout, Lawful, size_of, bytes_of, read_from, fault_of, numbered_field};
 
 // A kind of record. Fields hold whole numbers as they were sent, so that one out of range can be refused by its number.
-pub trait Record: Copy {
+pub trait Record: Copy + PartialEq {
     // what marks the kind on a sheet
     const TAG: u8;
 
@@ -13,24 +13,17 @@ pub trait Record: Copy {
     // the offer numbers are 1 to this
     const COUNT: u8;
 
+    ghost TAG: { ℕ };
+
+    ghost LENGTH: { ℕ };
+
+    ghost COUNT: { ℕ };
+
     ghost layout: { Layout Self };
 
-    fn tag_byte() -> u8
-        ensures { result ≡ layout.tag };
-
-    fn record_length() -> u16
-        ensures { result ≡ size_of layout };
-
-    fn number_count() -> u8
-        ensures { result ≡ layout.count };
-
-    // The number of the first field out of range, or 0.
-    fn fault(&self) -> u8
-        ensures { result ≡ fault_of layout self.now };
-
-    // Whether two records have the same fields.
-    fn same_as(&self, other: &Self) -> bool
-        ensures { Decides result (self.now ≡ other.now) };
+    // The number of the first field out of range.
+    fn fault(&self) -> Option<u8>
+        ensures { result ≡ numbered_field (fault_of layout self.now) };
 
     // The record in its bytes.
     fn read(source: &[u8]) -> Self
@@ -42,11 +35,23 @@ pub trait Record: Copy {
         requires { length out.old ≡ size_of layout }
         ensures { out.new ≡ bytes_of layout self.now };
 
+    ghost tagged: { TAG ≡ layout.tag };
+
+    ghost sized: { LENGTH ≡ size_of layout };
+
+    ghost counted: { COUNT ≡ layout.count };
+
     ghost lawful: { Lawful layout };
+
+    // Equal fields make equal records.
+    ghost known_by_fields: { (r s : Self) → Decides (Self.eq r s) (r ≡ s) };
 }
 
+// Dates, marks, markets, sorts and what a percentage is of are bytes and no enums: one that stands for nothing has to be held, to be
+// refused by the number of its field.
+
 // What a seller offers as one: all of it is bought for its price, or nothing.
-#[derive(Clone, Copy, PartialEq, Eq, Debug)]
+#[derive(Clone, Copy, Debug, PartialEq, Eq)]
 pub struct Package {
     // MW
     pub power: u32,

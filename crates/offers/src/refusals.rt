@@ -1,6 +1,6 @@
 // Why a call is refused: a code, and the values that go with it.
 ghost use Rattle.std.specs.Prelude.{◌≡◌};
-ghost use Rattle.offers.specs.Refusals.{code_number};
+ghost use Rattle.offers.specs.Refusals.{code_number, refused_at};
 
 // What was wrong. The numbers are those that a user sees.
 #[derive(Clone, Copy, PartialEq, Eq, Debug)]
@@ -32,7 +32,7 @@ pub enum Code {
 }
 
 impl Code {
-    // The number that a user sees.
+    // The number that a user sees. A method, since its name says which conversion it is.
     pub fn number(self) -> u8
         ensures { result ≡ code_number self }
     {
@@ -40,7 +40,8 @@ impl Code {
     }
 }
 
-// A refusal: its code, and 0 for each value that does not apply or was not read.
+// A refusal: its code, and 0 for each value that does not apply or was not read. The values are plain numbers, as the rules fix
+// them for whoever is refused; a case for each code would hold the same numbers under twelve names.
 #[derive(Clone, Copy, PartialEq, Eq, Debug)]
 pub struct Refusal {
     pub code: Code,
@@ -54,4 +55,20 @@ pub struct Refusal {
     pub byte: usize,
     // how deep in the stack of price rules the fault arose, the lowest rule being 1
     pub depth: u8,
+}
+
+impl Refusal {
+    // A refusal that carries nothing but its code.
+    pub fn of(code: Code) -> Refusal
+        ensures { result ≡ refused_at code 0 0 0 }
+    {
+        Refusal {
+            code,
+            tag: 0,
+            number: 0,
+            field: 0,
+            byte: 0,
+            depth: 0,
+        }
+    }
 }

@@ -1,7 +1,7 @@
 // A register: one entry for each offer number of a kind, filed on and withdrawn in one text for every kind.
 ghost use Rattle.std.specs.Prelude.{◌≡◌};
 ghost use Rattle.offers.specs.Refusals.{refused_at};
-ghost use Rattle.offers.specs.Registers.{numbered, filing, withdrawing, Moved};
+ghost use Rattle.offers.specs.Registers.{is_vacant, place, filing, withdrawing, Moved};
 
 use crate::records::Record;
 use crate::refusals::{Code, Refusal};
@@ -12,6 +12,14 @@ pub enum Entry<R> {
     Vacant,
     Open(R),
     Withdrawn(R),
+}
+
+impl<R> Entry<R> {
+    pub fn is_vacant(&self) -> bool
+        ensures { result ≡ is_vacant self.now }
+    {
+        matches!(self, Entry::Vacant)
+    }
 }
 
 // The entries of one kind, lent by whoever holds them. Number n stands at place n - 1.
@@ -40,11 +48,15 @@ impl<R: Record> Register<'_, R> {
     }
 }
 
-// Whether the kind has this offer number and the register is that long.
-pub fn has_entry<R: Record>(entries: &[Entry<R>], number: u8) -> bool
-    ensures { result ≡ numbered R.Record.layout entries.now number }
+// The place of an offer number, where the kind has it and the register is that long.
+pub fn place_of<R: Record>(entries: &[Entry<R>], number: u8) -> Option<usize>
+    ensures { result ≡ place R.Record.layout entries.now number }
 {
-    1 <= number && number <= R::number_count() && number as usize <= entries.len()
+    if (1..=R::COUNT).contains(&number) && number as usize <= entries.len() {
+        Some(number as usize - 1)
+    } else {
+        None
+    }
 }
 
 // A refusal of a call on one number.
@@ -52,12 +64,10 @@ fn refusal<R: Record>(code: Code, number: u8, field: u8) -> Refusal
     ensures { result ≡ refused_at code R.Record.layout.tag number field }
 {
     Refusal {
-        code,
-        tag: R::tag_byte(),
+        tag: R::TAG,
         number,
         field,
-        byte: 0,
-        depth: 0,
+        ..Refusal::of(code)
     }
 }
 
@@ -67,14 +77,12 @@ pub fn file_in<R: Record>(entries: &mut [Entry<R>], number: u8, new: R) -> Resul
     ensures after { entries.new ≡ (filing R.Record.layout entries.old number new).left }
     ensures moved { Moved entries.old number result entries.new }
 {
-    if !has_entry(entries, number) {
+    let Some(at) = place_of(entries, number) else {
         return Err(refusal::<R>(Code::NumberOutside, number, 0));
-    }
-    let field = new.fault();
-    if field != 0 {
+    };
+    if let Some(field) = new.fault() {
         return Err(refusal::<R>(Code::FieldOutside, number, field));
     }
-    let at = (number - 1) as usize;
     let held = &entries[at];
     match *held {
         Entry::Vacant => {
@@ -92,10 +100,9 @@ pub fn withdraw_in<R: Record>(entries: &mut [Entry<R>], number: u8) -> Result<()
     ensures after { entries.new ≡ (withdrawing R.Record.layout entries.old number).left }
     ensures moved { Moved entries.old number result entries.new }
 {
-    if !has_entry(entries, number) {
+    let Some(at) = place_of(entries, number) else {
         return Err(refusal::<R>(Code::NumberOutside, number, 0));
-    }
-    let at = (number - 1) as usize;
+    };
     let held = &entries[at];
     match *held {
         Entry::Vacant => Err(refusal::<R>(Code::NotFiled, number, 0)),

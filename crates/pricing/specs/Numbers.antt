@@ -1,5 +1,6 @@
 -- The ranges of the price rules' own numbers, and their refusal. Assumes nothing.
-use Rattle.std.specs.Prelude.{ℕ, Bool, true, ◌&&◌, List, [], ◌∷◌, ℤ, pos, negsuc, int_le}
+use Rattle.std.specs.Prelude.{ℕ, Bool, ◌&&◌, List, ℤ, pos, negsuc, int_le}
+use Rattle.std.specs.List.{list_all}
 use Rattle.offers.specs.declared.refusals.Code.TheVariants.{FieldOutside}
 use Rattle.offers.specs.declared.refusals.Refusal.{Refusal}
 use Rattle.offers.specs.Fields.{within}
@@ -10,8 +11,7 @@ abbrev pub zone_number : ℤ → Bool
 zone_number n = int_le (negsuc 999) n && int_le n (pos 1000)
 
 abbrev pub zone_numbers : List ℤ → Bool
-zone_numbers [] = true
-zone_numbers (n ∷ ns) = zone_number n && zone_numbers ns
+zone_numbers ns = list_all zone_number ns
 
 -- preference 10,000 to 11,000 and expectation 5,000 to 20,000, both in ten-thousandths
 abbrev pub currency_rates : ℕ → ℕ → Bool

@@ -16,6 +16,7 @@ impl PriceRule for Filed {
     ghost bounded = { Prim.search rules };
 
     fn price(&mut self, package: &Package) -> Result<i64, Fault> {
+        // unsigned, so the range has one end to test
         if package.price > 20_000_000_000 {
             return Err(Fault {
                 depth: self.depth(),

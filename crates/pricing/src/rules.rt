@@ -24,7 +24,8 @@ pub trait PriceRule {
         ensures same { meaning self.new ≡ meaning self.old }
         ensures same_level { level self.new ≡ level self.old };
 
-    // How far up the stack the rule stands, the lowest being 1; a byte that wraps.
+    // How far up the stack the rule stands, the lowest being 1; a byte that wraps. Each rule says it in a line, since a default could
+    // not know what stands below.
     fn depth(&self) -> u8
         ensures { result ≡ level self.now };
 
@@ -35,8 +36,9 @@ pub trait PriceRule {
 pub fn checked(depth: u8, price: i64) -> Result<i64, Fault>
     ensures { result ≡ checked_price depth price }
 {
-    if price < -20_000_000_000 || price > 20_000_000_000 {
-        return Err(Fault { depth });
+    if (-20_000_000_000..=20_000_000_000).contains(&price) {
+        Ok(price)
+    } else {
+        Err(Fault { depth })
     }
-    Ok(price)
 }

@@ -19,8 +19,8 @@ accepted all after bs ok is = by (catch_up all bs) refl
         let z : ◌≡◌ {A = ℕ} 0 1 = cc in
         absurd (omega arith)
 
--- so its docket is the closing of that
-pub docket_closed : (before : View) (held after : Entries) (bs : List ℕ) → held ≡ vacant → Ok tt ≡ (catching_up held bs).answer → after ≡ (catching_up held bs).left
-    → docket_of before bs ≡ closing before after filed_price
-docket_closed before held after bs none ok is =
-    ap (closed_after before) (subst (λ all. catch_up all bs ≡ Ok after) none (accepted held after bs ok is))
+-- so the docket that its closing leaves is the sheet's
+pub docket_left : (before : View) (held after : Entries) (bs : List ℕ) (left : View) → held ≡ vacant → Ok tt ≡ (catching_up held bs).answer → after ≡ (catching_up held bs).left
+    → left ≡ (closing before after filed_price).left → left ≡ (docket_of before bs).left
+docket_left before held after bs left none ok is closed =
+    closed ∙ sym (ap (λ r. (closed_after before r).left) (subst (λ all. catch_up all bs ≡ Ok after) none (accepted held after bs ok is)))

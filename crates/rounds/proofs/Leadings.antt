@@ -1,21 +1,21 @@
 -- The leader of a search is the best of the settled choices, from the start to the end.
-use Rattle.std.proofs.Common.{◌≡◌, ℕ, ◌+◌, ◌^◌, ◌<◌, ◌≤◌, true, false, List, [], ◌∷◌, ℤ, ◌≤ℤ◌, ◌<ℤ◌, Some, None, Option, sym, refl, subst, ⊎_elim, arith}
+use Rattle.std.proofs.Common.{◌≡◌, ℕ, ◌+◌, ◌^◌, ◌<◌, ◌≤◌, true, false, List, [], ◌∷◌, ℤ, ◌≤ℤ◌, Some, None, Option, sym, refl, subst, arith}
 use lib.Signed.{le_z, lt_z}
 use Rattle.std.proofs.lemmas.Int.{ints}
-use Rattle.std.proofs.lemmas.Bool.{cond_both, both_ways, cases_lt, eqb-true}
+use Rattle.std.proofs.lemmas.Bool.{cond_both, both_ways}
 use Rattle.std.proofs.lemmas.Bool.Decides.{nat_tests}
 use Rattle.clearing.specs.declared.dockets.PricedPackage.{PricedPackage}
 use Rattle.clearing.specs.declared.dockets.OpenBand.{OpenBand}
 use Rattle.clearing.specs.Choices.{taken, supply}
 use Rattle.clearing.specs.Judging.{worth_of}
-use Rattle.clearing.specs.Lawful.{View, WithinQuantities, LawfulFor, Lawful, Worth, BestBelow, Best, sold, paid, surplus, filled_sales, choices}
+use Rattle.clearing.specs.Lawful.{View, WithinQuantities, LawfulFor, Lawful, Worth, sold, paid, surplus, filled_sales, choices}
 use Rattle.clearing.specs.Tallies.{row}
 use Rattle.clearing.proofs.Filling.{filled_small, filled_within}
 use Rattle.clearing.proofs.FillingSums.{all_of}
 use Rattle.clearing.proofs.Ranged.{Ranged, filled-most}
 use Rattle.bounds.specs.Blocks.{Span, Answers, InDocket, InBlock, Claims}
-use Rattle.rounds.specs.Search.{Standing, Placed, Leads, start, next_block, hopeless, settle, lead, step, finished, steps}
-use Rattle.rounds.proofs.Placings.{step_cases, steps_keep}
+use Rattle.rounds.specs.Search.{Standing, Placed, Leads, start, next_block, hopeless, settle, lead, step}
+use Rattle.rounds.proofs.Placings.{step_cases}
 
 -- choice 0 takes nothing
 taken_none : (ps : List PricedPackage) → taken ps 0 ≡ []
@@ -55,15 +55,12 @@ stay_leads v at more leads none = record {
     below = omega (arith, leads.best.below);
     lawful = leads.best.lawful;
     greatest = λ other sales below lawful.
-        ⊎_elim
-        (λ (h : other < at.settled). leads.best.greatest other sales h lawful)
-        (λ (h : at.settled ≤ other). subst (λ z. surplus v other sales ≤ℤ z) leads.worth (none other sales h below lawful))
-        (cases_lt other at.settled);
+        let before = λ (h : other < at.settled). leads.best.greatest other sales h lawful in
+        let after = λ (h : at.settled ≤ other). none other sales h below lawful in
+        grind (arith, ints, leads.worth);
     earliest = λ other sales below lawful same.
-        ⊎_elim
-        (λ (h : other < at.settled). leads.best.earliest other sales h lawful same)
-        (λ (h : at.settled ≤ other). omega (arith, leads.best.below))
-        (cases_lt other at.settled);
+        let before = λ (h : other < at.settled). leads.best.earliest other sales h lawful same in
+        grind (arith, leads.best.below);
   };
   worth = leads.worth;
 }
@@ -77,10 +74,6 @@ same_choice v choice other sales z same most = subst (λ c. Lawful v c sales →
 up_to : (a b c : ℤ) → a ≤ℤ b → le_z b c ≡ true → a ≤ℤ c
 up_to a b c most e = grind (arith, ints)
 
--- what is at most the leader's surplus is less than a worth that is tested to be above it
-below_more : (a b lead worth c : ℤ) → a ≤ℤ b → lead ≡ b → lt_z lead worth ≡ true → worth ≡ c → a <ℤ c
-below_more a b lead worth c most led e known = grind (arith, ints)
-
 -- what is at most a worth that is tested not to be above the leader's surplus is at most that
 not-above : (a c lead worth : ℤ) → a ≤ℤ c → lt_z lead worth ≡ false → worth ≡ c → a ≤ℤ lead
 not-above a c lead worth most e known = grind (arith, ints)
@@ -91,10 +84,6 @@ hopeless-less : (v : View) (b : Span) (answer : Option ℤ) (worth : ℤ) → Cl
 hopeless-less v b None worth claims e other sales inside lawful = absurd (claims other sales inside lawful)
 hopeless-less v b (Some cap) worth claims e other sales inside lawful =
     up_to (surplus v other sales) cap worth (claims other sales inside lawful) e
-
--- a search that has settled all has the best choice of all
-pub finished-best : (v : View) (at : Standing) → Leads v at → finished v at ≡ true → Best v at.leader
-finished-best v at leads e = subst (λ n. BestBelow v n at.leader) (eqb-true at.settled (choices v) e) leads.best
 
 module _ (v : View) (ranged : Ranged v) where
   -- nothing is sold of choice 0
@@ -128,22 +117,18 @@ module _ (v : View) (ranged : Ranged v) where
   one_leads : (at : Standing) (worth : ℤ) → Worth v at.settled (Some worth) → Leads v at → lt_z at.surplus worth ≡ true
       → Leads v (settle (record { settled = at.settled; free = at.free; leader = at.settled; surplus = worth }) 1)
   one_leads at worth known leads e =
-      let less = λ (other : ℕ) (sales : List ℕ) (h : other < at.settled) (lawful : Lawful v other sales).
-      below_more _ _ at.surplus worth _ (leads.best.greatest other sales h lawful) leads.worth e known.1 in
       record {
         best = record {
           below = omega arith;
           lawful = known.0;
           greatest = λ other sales below lawful.
-              ⊎_elim
-              (λ (h : other < at.settled). omega (arith, ints, less other sales h lawful))
-              (λ (h : at.settled ≤ other). same_choice v at.settled other sales _ (omega arith) (filled-most v ranged at.settled sales) lawful)
-              (cases_lt other at.settled);
+              let before = λ (h : other < at.settled). leads.best.greatest other sales h lawful in
+              let here = λ (h : at.settled ≤ other).
+              same_choice v at.settled other sales (surplus v at.settled (filled_sales v at.settled)) (omega arith) (filled-most v ranged at.settled sales) lawful in
+              grind (arith, ints, leads.worth, known.1);
           earliest = λ other sales below lawful same.
-              ⊎_elim
-              (λ (h : other < at.settled). absurd (omega (arith, ints, less other sales h lawful, same)))
-              (λ (h : at.settled ≤ other). h)
-              (cases_lt other at.settled);
+              let before = λ (h : other < at.settled). leads.best.greatest other sales h lawful in
+              grind (arith, ints, same, leads.worth, known.1);
         };
         worth = known.1;
       }
@@ -171,7 +156,3 @@ module _ (v : View) (ranged : Ranged v) where
         (skip_leads at placed below leads)
         (λ _. record { best = leads.best; worth = leads.worth })
         (λ _. try_leads at (worth_of v at.settled) (judged at.settled) leads)
-
-    -- so do any number of steps
-    pub steps-leads : (count : ℕ) (at : Standing) → Placed v at → Leads v at → Leads v (steps rule v count at)
-    steps-leads count at placed leads = steps_keep rule v (Leads v) step-leads count at placed leads

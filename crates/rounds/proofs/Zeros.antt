@@ -1,6 +1,7 @@
 -- The zeros that end a number, and what powers of two divide.
-use Rattle.std.proofs.Common.{◌≡◌, ℕ, zero, suc, ◌+◌, ◌-◌, ◌*◌, ◌/◌, ◌%◌, ◌^◌, ◌<◌, ◌≤◌, sym, refl, ap, ◌∙◌, ⊎_elim, mul-le-mul_right, mod-eq_of_lt, suc-mul, add-one, arith, pow_mono, pow-add, shr_lt}
+use Rattle.std.proofs.Common.{◌≡◌, ℕ, zero, suc, ◌+◌, ◌-◌, ◌*◌, ◌/◌, ◌%◌, ◌^◌, ◌<◌, ◌≤◌, sym, refl, ap, ◌∙◌, ⊎_elim, mul-le-mul_right, suc-mul, add-one, arith, pow_mono, pow-add, shr_lt}
 use native.Mathlib.Nat.{mod-one}
+use Rattle.std.proofs.lemmas.Nat.Gcd.{le_of_dvd, dvd_of_mod-eq-zero}
 use lib.Count.{count_trailing_zeros, under}
 use lib.Pow.{split, mod-pow-add}
 use Rattle.std.proofs.lemmas.Bool.{cases_lt}
@@ -18,14 +19,9 @@ unfolding count_trailing_zeros
 trailing_divides zero n = mod-one n
 trailing_divides (suc k) n = under_divides (n % 2) n (count_trailing_zeros k (n / 2)) refl (trailing_divides k (n / 2))
 
--- what divides a number above 0 is at most it
-pub divisor_least : (n m : ℕ) → 1 ≤ n → n % m ≡ 0 → m ≤ n
-divisor_least n m some divides =
-    ⊎_elim (λ (h : n < m). absurd (omega (arith, mod-eq_of_lt h))) (λ (h : m ≤ n). h) (cases_lt n m)
-
--- so is that power, of a number above 0
-pub trailing_small : (k n : ℕ) → 1 ≤ n → 2 ^ count_trailing_zeros k n ≤ n
-trailing_small k n some = divisor_least n (2 ^ count_trailing_zeros k n) some (trailing_divides k n)
+-- and, of a number above 0, is at most it
+pub trailing_small : (k n : ℕ) → 0 < n → 2 ^ count_trailing_zeros k n ≤ n
+trailing_small k n some = le_of_dvd some (dvd_of_mod-eq-zero (2 ^ count_trailing_zeros k n) (trailing_divides k n))
 
 -- below a power of two, what a smaller one divides leaves room for it
 pub power_room : (first k n : ℕ) → first % 2 ^ k ≡ 0 → first < 2 ^ n → k ≤ n → first + 2 ^ k ≤ 2 ^ n

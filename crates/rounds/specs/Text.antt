@@ -1,5 +1,6 @@
 -- What the program prints, byte by byte. Assumes nothing.
 use Rattle.std.specs.Prelude.{ℕ, List, [], ◌∷◌, ◌++◌, vec_items, codes, decimal}
+use Rattle.std.specs.List.{flat_map}
 use Rattle.std.specs.Fmt.{signed_decimal}
 use Rattle.offers.specs.Refusals.{code_number}
 use Rattle.rounds.specs.declared.report.RefusedSheet.{RefusedSheet}
@@ -11,8 +12,7 @@ line_end = 10 ∷ []
 
 -- a line for each element
 abbrev pub lines_of : {X : Type 0} → (X → List ℕ) → List X → List ℕ
-lines_of line [] = []
-lines_of line (x ∷ xs) = line x ++ lines_of line xs
+lines_of line xs = flat_map line xs
 
 abbrev pub package_line : ℕ → List ℕ
 package_line number = codes "package " ++ (decimal number ++ line_end)

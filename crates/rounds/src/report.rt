@@ -1,10 +1,9 @@
 // An award and its report, and what the program prints of it or of a refused sheet.
 ghost use Rattle.std.specs.Prelude.{◌≡◌, map, IfOk, Some};
-ghost use Rattle.std.specs.Fmt.{WritesOnOk};
 ghost use Rattle.clearing.specs.Choices.{taken};
 ghost use Rattle.clearing.specs.Lawful.{view};
 ghost use Rattle.rounds.specs.Clearing.{Reports, supplies, sold_line};
-ghost use Rattle.rounds.specs.Text.{lines_of, package_line, band_line, report_text, refused_text};
+ghost use Rattle.rounds.specs.Text.{report_text, refused_text};
 
 use crate::search::choices;
 use clearing::dockets::Docket;
@@ -61,15 +60,10 @@ impl Report {
 fn taken_numbers(heap: Global, docket: &Docket, choice: u64) -> Result<Vec<u8>, AllocError>
     ensures { IfOk result (λ v. v.items ≡ map (λ p. p.number) (taken docket.now.packages.items choice)) }
 {
-    let mut numbers = Vec::new(heap);
-    let mut digits = choice;
-    for package in docket.packages.iter() {
-        if digits % 2 == 1 {
-            numbers.push(package.number)?;
-        }
-        digits /= 2;
-    }
-    Ok(numbers)
+    docket
+        .taken(choice)
+        .map(|package| package.number)
+        .collect(heap)
 }
 
 // What each open band is sold of what a choice supplies.
@@ -78,49 +72,28 @@ fn sold_quantities(heap: Global, docket: &Docket, choice: u64) -> Result<Vec<Sol
 {
     let taken = Tally::of(docket, choice);
     let row = sales_row(docket, &taken.supply);
-    let mut sold = Vec::new(heap);
-    for band in docket.bands.iter() {
-        sold.push(Sold {
+    docket
+        .bands
+        .iter()
+        .map(|band| Sold {
             band: band.number,
             quantity: row[band.number as usize - 1],
-        })?;
-    }
-    Ok(sold)
-}
-
-// A line for each package that is taken.
-fn write_packages<W: fmt::Write>(numbers: &[u8], f: &mut fmt::Formatter<W>) -> fmt::Result
-    ensures { WritesOnOk W.Write.write_str_gives f.old result (lines_of package_line numbers.now) f.new }
-{
-    for number in numbers {
-        writeln!(f, "package {number}")?;
-    }
-    Ok(())
-}
-
-// A line for each open band.
-fn write_bands<W: fmt::Write>(bands: &[Sold], f: &mut fmt::Formatter<W>) -> fmt::Result
-    ensures { WritesOnOk W.Write.write_str_gives f.old result (lines_of band_line bands.now) f.new }
-{
-    for sold in bands {
-        let band = sold.band;
-        let quantity = sold.quantity;
-        writeln!(f, "band {band} sold {quantity}")?;
-    }
-    Ok(())
+        })
+        .collect(heap)
 }
 
 impl fmt::Display for Report {
     ghost output = { λ r. Some (report_text r) };
 
     fn fmt<W: fmt::Write>(&self, f: &mut fmt::Formatter<W>) -> fmt::Result {
-        let open = self.open;
-        let choices = self.choices;
-        writeln!(f, "open {open} choices {choices}")?;
-        write_packages(&self.packages, f)?;
-        write_bands(&self.bands, f)?;
-        let surplus = self.surplus;
-        writeln!(f, "surplus {surplus}")
+        writeln!(f, "open {} choices {}", self.open, self.choices)?;
+        for number in &self.packages {
+            writeln!(f, "package {number}")?;
+        }
+        for sold in &self.bands {
+            writeln!(f, "band {} sold {}", sold.band, sold.quantity)?;
+        }
+        writeln!(f, "surplus {}", self.surplus)
     }
 }
 
@@ -128,8 +101,6 @@ impl fmt::Display for RefusedSheet {
     ghost output = { λ r. Some (refused_text r) };
 
     fn fmt<W: fmt::Write>(&self, f: &mut fmt::Formatter<W>) -> fmt::Result {
-        let code = self.0.code.number();
-        let byte = self.0.byte;
-        writeln!(f, "refused {code} at {byte}")
+        writeln!(f, "refused {} at {}", self.0.code.number(), self.0.byte)
     }
 }

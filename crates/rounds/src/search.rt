@@ -4,7 +4,7 @@ ghost use Rattle.std.specs.Int.Count.{count_trailing_zeros};
 ghost use Rattle.clearing.specs.Closing.{ByClosing};
 ghost use Rattle.clearing.specs.Judging.{worth_of};
 ghost use Rattle.clearing.specs.Lawful.{view, choices as choice_count};
-ghost use Rattle.rounds.specs.Search.{Placed, Leads, left, standing, start as beginning, settle as settling, halve as halving, lead as leading, step as stepped, steps as run_of};
+ghost use Rattle.rounds.specs.Search.{Placed, Leads, left, hopeless, standing, start as beginning, settle as settling, halve as halving, lead as leading, step as stepped, steps as run_of};
 
 use crate::positions::Position;
 use bounds::blocks::{Block, BoundingRule};
@@ -24,22 +24,26 @@ impl Position {
         }
     }
 
+    // Whether a block with this cap has no lawful choice, or none worth more than the leader.
+    fn outdoes(self, cap: Option<i64>) -> bool
+        ensures { result ≡ hopeless cap self.surplus }
+    {
+        cap.is_none_or(|cap| cap <= self.surplus)
+    }
+
     // So many choices more are settled.
-    fn settle(self, more: u64) -> Position
+    fn settle(mut self, more: u64) -> Position
         requires { self.settled + more ≤ 2 ^ 41 }
         ensures count { result.settled ≡ self.settled + more }
         ensures value { 0 < self.settled + more → self.settled + more ≤ 2 ^ 40 → standing result ≡ settling (standing self) more }
     {
-        let settled = self.settled + more;
-        Position {
-            settled,
-            free: zero_digits(settled),
-            leader: self.leader,
-            surplus: self.surplus,
-        }
+        self.settled += more;
+        self.free = zero_digits(self.settled);
+        self
     }
 
-    // The block is settled.
+    // The block is settled. This and two calls below ask for a search that is not finished: a finished one is a position too, so
+    // no invariant says it.
     fn skip(self) -> Position
         requires { self.settled < 2 ^ 40 }
         ensures falls { left result < left self }
@@ -49,32 +53,26 @@ impl Position {
     }
 
     // The first half of the block is next.
-    fn halve(self) -> Position
+    fn halve(mut self) -> Position
         requires { 0 < self.free }
         ensures falls { left result < left self }
         ensures value { standing result ≡ halving (standing self) }
     {
-        Position {
-            settled: self.settled,
-            free: self.free - 1,
-            leader: self.leader,
-            surplus: self.surplus,
-        }
+        self.free -= 1;
+        self
     }
 
     // The next choice leads if it is lawful and worth more than the leader.
-    fn lead(self, docket: &Docket) -> Position
+    fn lead(mut self, docket: &Docket) -> Position
         ensures { standing result ≡ leading (standing self) (worth_of (view docket.now) self.settled) }
     {
-        match worth(docket, self.settled) {
-            Some(surplus) if surplus > self.surplus => Position {
-                settled: self.settled,
-                free: self.free,
-                leader: self.settled,
-                surplus,
-            },
-            _ => self,
+        if let Some(surplus) = worth(docket, self.settled)
+            && surplus > self.surplus
+        {
+            self.leader = self.settled;
+            self.surplus = surplus;
         }
+        self
     }
 
     // The one choice of the block leads if it is lawful and worth more than the leader, and it is settled.
@@ -106,17 +104,14 @@ fn step<B: BoundingRule>(docket: &Docket, at: Position, rule: &mut B) -> Positio
         first: at.settled,
         free: at.free,
     };
-    let hopeful = match rule.consult(docket, block) {
-        Some(cap) => cap > at.surplus,
-        None => false,
-    };
-    if !hopeful {
-        return at.skip();
+    let cap = rule.consult(docket, block);
+    if at.outdoes(cap) {
+        at.skip()
+    } else if at.free > 0 {
+        at.halve()
+    } else {
+        at.try_choice(docket)
     }
-    if at.free > 0 {
-        return at.halve();
-    }
-    at.try_choice(docket)
 }
 
 // The choices of a docket.

@@ -22,13 +22,14 @@ use std::alloc::{AllocError, AllocFailed, Global};
 // Steps between two notes of progress.
 const STEPS: u32 = 1_000_000;
 
-// Who wants to know how far a search is.
+// Who wants to know how far a search is. A closure in its place would have the public calls require that it may be
+// called.
 pub trait Progress {
     // Choices settled of all, and the surplus of the leader in pesos.
     fn note(&mut self, settled: u64, choices: u64, surplus: i64);
 }
 
-// Why there is no award.
+// Why there is no award. What becomes one is written by hand, since a derived `From` does not say what it gives.
 #[derive(Clone, Copy)]
 pub enum Stop {
     Refused(Refusal),
@@ -43,6 +44,7 @@ impl From<Refusal> for Stop {
     }
 }
 
+// `?` wants an impl for each error type of the library, though both say the same.
 impl From<AllocError> for Stop {
     ghost from_gives = { λ _ stop. stop ≡ Memory };
 

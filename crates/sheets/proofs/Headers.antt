@@ -4,7 +4,8 @@ use Rattle.std.proofs.lemmas.Bool.{cond_both}
 use Rattle.offers.specs.declared.refusals.Refusal.{Refusal}
 use Rattle.offers.specs.declared.memory.Kind.{Kind}
 use Rattle.offers.specs.Memory.{layout_of}
-use Rattle.sheets.specs.Fields.{Piece, split, kind_of_tag, content_size}
+use Rattle.sheets.specs.Fields.{Piece, split, content_size}
+use Rattle.offers.specs.Marks.{kind_of_tag}
 use Rattle.sheets.proofs.Checks.{Fair}
 
 -- no answer is both a refusal and a value

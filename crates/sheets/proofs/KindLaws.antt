@@ -7,7 +7,7 @@ use Rattle.offers.specs.Layouts.{Lawful}
 use Rattle.offers.specs.Memory.{Entries, RecordOf, layout_of, entries_of, with_entries}
 use Rattle.offers.specs.LawfulKinds.{package_lawful, band_lawful, pair_lawful, exclusion_lawful, limit_lawful}
 use Rattle.offers.proofs.MemoryLaws.{lifted-each}
-use Rattle.sheets.specs.Fields.{kind_of_tag}
+use Rattle.offers.specs.Marks.{kind_of_tag}
 
 -- every kind keeps the laws of a layout
 pub lawful-kind : (k : Kind) → Lawful (layout_of k)

@@ -1,14 +1,17 @@
 -- Bytes written into a buffer one after the other: single ones, fields of any kind, registers, a whole sheet.
-use Rattle.std.proofs.Common.{◌≡◌, ℕ, ◌+◌, ◌-◌, ◌/◌, ◌%◌, ◌^◌, ◌<◌, ◌≤◌, List, [], ◌∷◌, ◌++◌, length, get_or, take, drop, set, Ok, Result, sym, refl, ap, ◌∙◌, subst, add-zero, arith}
+use Rattle.std.proofs.Common.{◌≡◌, ℕ, ◌+◌, ◌-◌, ◌*◌, ◌<◌, ◌≤◌, not, List, [], ◌∷◌, ◌++◌, length, get_or, take, drop, Ok, Result, sym, refl, ap, ◌∙◌, subst, add-zero, arith}
+use Rattle.std.specs.List.{filter}
 use borrow.Rule.Slice.PartMut.{put_mid}
-use Rattle.std.proofs.lemmas.List.{append-nil, append_assoc, length-append, length-set, length-take, take-append-drop, take_more, take_more_set, drop-set-lt, drop-drop}
+use Rattle.std.proofs.lemmas.List.{append-nil, append_assoc, length-append, length-take, length-drop, take-append-drop, take_more, drop-drop}
 use Rattle.std.proofs.lemmas.Slice.{take-put_mid, drop-put_mid}
 use Rattle.std.proofs.lemmas.Bool.{le-leb}
 use Rattle.offers.specs.declared.refusals.Refusal.{Refusal}
 use Rattle.offers.specs.declared.registers.Entry.{Entry}
 use Rattle.offers.specs.declared.registers.Entry.TheVariants.{Vacant, Open, Withdrawn}
 use Rattle.offers.specs.declared.memory.Kind.TheVariants as kind
+use Rattle.offers.specs.Fields.{high_first}
 use Rattle.offers.specs.Layouts.{Layout, Lawful, bytes_of}
+use Rattle.offers.specs.Registers.{is_vacant}
 use Rattle.offers.specs.Memory.{Entries}
 use Rattle.sheets.specs.Fields.{content_size}
 use Rattle.sheets.specs.Writing.{field_bytes, entry_bytes, register_bytes, kind_bytes, sheet_of, write_sheet}
@@ -47,13 +50,11 @@ put_whole end bytes before after p =
     let e : end ≡ length bytes = omega (arith, p.ends) in
     sym (take-append-drop end after) ∙ rw (p.front, p.back, e)
 
--- one byte is set
-put_one : (at end b : ℕ) (before : List ℕ) → end ≡ at + 1 → at < length before → Put at end (b ∷ []) before (set before at b)
-put_one at end b before e h = record {
-  ends = e;
-  front = rw e (take_more_set before at b h);
-  back = drop-set-lt end before at b (omega arith);
-}
+-- a buffer stays as long as it was
+put_long : (at end : ℕ) (bytes before after : List ℕ) → Put at end bytes before after → end ≤ length before → length after ≡ length before
+put_long at end bytes before after p h =
+    ap length (sym (take-append-drop end after))
+    ∙ rw (p.front, p.back) (simp (length-append, length-take, length-drop) (omega (arith, p.ends)))
 
 -- a part is written over
 put_part : (at end : ℕ) (bytes before : List ℕ) → end ≡ at + length bytes → end ≤ length before → Put at end bytes before (put_mid at (end - at) before bytes)
@@ -74,31 +75,29 @@ module _ {R : Type 0} (k : Layout R) (law : Lawful k) where
   length-entry n (Open r) ne = length-field n 1 r
   length-entry n (Withdrawn r) ne = length-field n 2 r
 
-  -- five bytes are set, and the record's follow
-  pub put_field : (n status : ℕ) (r : R) (at tag size : ℕ) (out before : List ℕ) → content_size k < 2 ^ 16
-      → at + length (field_bytes k n status r) ≤ length before → tag ≡ k.tag → size ≡ content_size k → out ≡ bytes_of k r
+  -- as many fields as entries that are not vacant make up a register
+  pub length_register : (n : ℕ) (es : List (Entry R)) → length (register_bytes k n es) ≡ length (filter (λ e. not (is_vacant e)) es) * (content_size k + 3)
+  length_register n [] = omega arith
+  length_register n (Vacant ∷ es) = length_register (n + 1) es
+  length_register n (Open r ∷ es) = simp length-append (omega (arith, length-field n 1 r, length_register (n + 1) es))
+  length_register n (Withdrawn r ∷ es) = simp length-append (omega (arith, length-field n 2 r, length_register (n + 1) es))
+
+  -- five bytes are written, and the record's follow
+  pub put_field : (n status : ℕ) (r : R) (at size : ℕ) (front out before : List ℕ)
+      → at + length (field_bytes k n status r) ≤ length before → size ≡ content_size k
+      → front ≡ k.tag ∷ (high_first 2 (content_size k) ++ n ∷ status ∷ []) → out ≡ bytes_of k r
       → Put at (at + 3 + size) (field_bytes k n status r) before
-      (put_mid (at + 3 + 2) (at + 3 + size - (at + 3 + 2))
-      (set (set (set (set (set before at tag) (at + 1) (size / 256)) (at + 2) (size % 256)) (at + 3) n) (at + 3 + 1) status) out)
-  put_field n status r at tag size out before short room t s o =
-      let b1 = set before at tag in
-      let b2 = set b1 (at + 1) (size / 256) in
-      let b3 = set b2 (at + 2) (size % 256) in
-      let b4 = set b3 (at + 3) n in
-      let b5 = set b4 (at + 3 + 1) status in
+      (put_mid (at + 3 + 2) (at + 3 + size - (at + 3 + 2)) (put_mid at (at + 3 + 2 - at) before front) out)
+  put_field n status r at size front out before room s f o =
       let wide = law.sized r in
+      let five = ap length f in
       let same = ap length o in
-      let p1 = put_one at (at + 1) tag before refl (omega arith) in
-      let p2 = put_one (at + 1) (at + 2) (size / 256) b1 (omega arith) (simp length-set (omega arith)) in
-      let p3 = put_one (at + 2) (at + 3) (size % 256) b2 (omega arith) (simp length-set (omega arith)) in
-      let p4 = put_one (at + 3) (at + 3 + 1) n b3 refl (simp length-set (omega arith)) in
-      let p5 = put_one (at + 3 + 1) (at + 3 + 2) status b4 (omega arith) (simp length-set (omega arith)) in
-      let p6 = put_part (at + 3 + 2) (at + 3 + size) out b5 (omega arith) (simp length-set (omega arith)) in
-      let all = put_both p1 (put_both p2 (put_both p3 (put_both p4 (put_both p5 p6)))) in
-      let high : size / 256 ≡ content_size k / 256 % 256 = omega arith in
-      let low : size % 256 ≡ content_size k / 1 % 256 = omega arith in
-      let bytes : tag ∷ size / 256 ∷ size % 256 ∷ n ∷ status ∷ out ≡ field_bytes k n status r = cc in
-      subst (λ (bs : List ℕ). Put at (at + 3 + size) bs before (put_mid (at + 3 + 2) (at + 3 + size - (at + 3 + 2)) b5 out)) bytes all
+      let p1 = put_part at (at + 3 + 2) front before (omega arith) (omega arith) in
+      let b1 = put_mid at (at + 3 + 2 - at) before front in
+      let long = put_long at (at + 3 + 2) front before b1 p1 (omega arith) in
+      let p2 = put_part (at + 3 + 2) (at + 3 + size) out b1 (omega arith) (omega arith) in
+      let bytes : front ++ out ≡ field_bytes k n status r = rw (f, o) refl in
+      subst (λ (bs : List ℕ). Put at (at + 3 + size) bs before (put_mid (at + 3 + 2) (at + 3 + size - (at + 3 + 2)) b1 out)) bytes (put_both p1 p2)
 
 module _ {R : Type 0} (k : Layout R) where
   -- the fields of two rows of entries, the second numbered on from the first

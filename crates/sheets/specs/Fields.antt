@@ -1,5 +1,5 @@
 -- One field of a sheet: its header, the checks that it has to pass, and what it makes of the entries of its kind. Assumes nothing.
-use Rattle.std.specs.Prelude.{ℕ, ◌+◌, ◌-◌, ◌*◌, Bool, true, cond, ◌&&◌, ◌||◌, List, [], ◌∷◌, length, take, drop, Some, None, Ok, Err, Option, Result, ◌==◌, nat_le, nat_lt, slice_index, slice_set}
+use Rattle.std.specs.Prelude.{ℕ, ◌+◌, ◌-◌, ◌*◌, Bool, true, false, cond, ◌&&◌, ◌||◌, List, [], ◌∷◌, length, take, drop, Some, None, Ok, Err, Option, Result, ◌==◌, nat_le, nat_lt, slice_index, slice_set}
 use Rattle.std.specs.Str.{bytes_eq}
 use Rattle.offers.specs.declared.refusals.Code.{Code}
 use Rattle.offers.specs.declared.refusals.Code.TheVariants.{NumberOutside, FieldOutside, CutShort, Strange, NotRising, Clash}
@@ -7,26 +7,19 @@ use Rattle.offers.specs.declared.refusals.Refusal.{Refusal}
 use Rattle.offers.specs.declared.registers.Entry.{Entry}
 use Rattle.offers.specs.declared.registers.Entry.TheVariants.{Vacant, Open, Withdrawn}
 use Rattle.offers.specs.declared.memory.Kind.{Kind}
-use Rattle.offers.specs.declared.memory.Kind.TheVariants as kind
 use Rattle.offers.specs.Fields.{within}
+use Rattle.offers.specs.Marks.{kind_of_tag}
 use Rattle.offers.specs.Layouts.{Layout, size_of, bytes_of, read_from, fault_of}
 use Rattle.offers.specs.Registers.{entry, numbered}
 use Rattle.offers.specs.Memory.{layout_of}
 use Rattle.sheets.specs.declared.fields.Mark.{Mark}
+use Rattle.sheets.specs.declared.fields.Status.{Status}
+use Rattle.sheets.specs.declared.fields.Status.TheVariants as status
 
 -- a refusal of a field that starts at a byte
 abbrev pub refused_field : Code → ℕ → ℕ → ℕ → ℕ → Refusal
 refused_field code tag number field byte =
     record { code = code; tag = tag; number = number; field = field; byte = byte; depth = 0 }
-
--- the kind that a tag marks
-abbrev pub kind_of_tag : ℕ → Option Kind
-kind_of_tag t =
-    cond (t == (layout_of kind.Package).tag) (Some kind.Package)
-    (cond (t == (layout_of kind.Band).tag) (Some kind.Band)
-    (cond (t == (layout_of kind.Pair).tag) (Some kind.Pair)
-    (cond (t == (layout_of kind.Exclusion).tag) (Some kind.Exclusion)
-    (cond (t == (layout_of kind.Limit).tag) (Some kind.Limit) None))))
 
 -- the bytes of a content: offer number, status and record
 abbrev pub content_size : {R : Type 0} → Layout R → ℕ
@@ -69,6 +62,18 @@ abbrev pub agrees : {R : Type 0} → Layout R → Entry R → R → Bool
 agrees k Vacant r = true
 agrees k (Open mine) r = bytes_eq (bytes_of k mine) (bytes_of k r)
 agrees k (Withdrawn mine) r = bytes_eq (bytes_of k mine) (bytes_of k r)
+
+-- what a status byte says of an entry
+abbrev pub status_of : ℕ → Option Status
+status_of n = cond (n == 1) (Some status.Open) (cond (n == 2) (Some status.Withdrawn) None)
+
+abbrev pub status_byte : Status → ℕ
+status_byte status.Open = 1
+status_byte status.Withdrawn = 2
+
+abbrev pub status_withdrawn : Status → Bool
+status_withdrawn status.Open = false
+status_withdrawn status.Withdrawn = true
 
 abbrev pub entry_of : {R : Type 0} → Bool → R → Entry R
 entry_of withdrawn r = cond withdrawn (Withdrawn r) (Open r)

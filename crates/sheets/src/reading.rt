@@ -5,7 +5,7 @@ ghost use Rattle.sheets.specs.Fields.{content_size};
 ghost use Rattle.sheets.specs.Laws.{CaughtUp};
 ghost use Rattle.sheets.specs.Reading.{take_piece, catching_up};
 
-use crate::fields::{Field, HEADER, Mark, split_field, tag_of, take_content};
+use crate::fields::{Field, HEADER, Mark, split_field, take_content};
 use offers::memory::{Kind, Offers};
 use offers::refusals::Refusal;
 
@@ -27,7 +27,7 @@ pub fn catch_up(offers: &mut Offers, sheet: &[u8]) -> Result<(), Refusal>
         let number = take_field(&mut copy, last, field)?;
         last = Mark {
             byte: last.byte + HEADER + field.content.len(),
-            tag: tag_of(field.kind),
+            tag: field.kind.tag(),
             number,
         };
         rest = field.rest;
@@ -42,6 +42,7 @@ fn take_field(offers: &mut Offers, last: Mark, field: Field<'_>) -> Result<u8, R
     ensures answer { result ≡ (take_piece (held offers.old) last (record { kind = field.entry.kind; content = field.entry.content.now; rest = field.entry.rest.now })).answer }
     ensures after { held offers.new ≡ (take_piece (held offers.old) last (record { kind = field.entry.kind; content = field.entry.content.now; rest = field.entry.rest.now })).left }
 {
+    // a `dyn` ledger in place of the arms would need this same match to be picked
     match field.kind {
         Kind::Package => take_content(&mut offers.packages, last, field.content),
         Kind::Band => take_content(&mut offers.bands, last, field.content),

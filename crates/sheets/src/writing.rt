@@ -1,11 +1,11 @@
 // Writing: every entry that is not vacant goes straight into the caller's buffer, by rising tag, then rising number.
 ghost use Rattle.std.specs.Prelude.{◌≡◌, ◌+◌, ◌*◌, ◌^◌, ◌<◌, ◌≤◌, ◌++◌, length, take, drop};
 ghost use Rattle.offers.specs.Memory.{Sound, held};
-ghost use Rattle.sheets.specs.Fields.{content_size};
+ghost use Rattle.sheets.specs.Fields.{content_size, status_byte};
 ghost use Rattle.sheets.specs.Laws.{Faithful};
 ghost use Rattle.sheets.specs.Writing.{field_bytes, register_bytes, sheet_of, write_sheet};
 
-use crate::fields::{HEADER, OPEN, WITHDRAWN, content_bytes, refusal};
+use crate::fields::{HEADER, Status, content_bytes, refusal};
 use offers::memory::Offers;
 use offers::records::Record;
 use offers::refusals::{Code, Refusal};
@@ -21,11 +21,11 @@ pub fn write_sheet(offers: &Offers, buffer: &mut [u8]) -> Result<usize, Refusal>
     if buffer.len() < length {
         return Err(refusal(Code::NoRoom, 0, 0, 0, 0));
     }
-    let at = put_register(&offers.packages, buffer, 0);
-    let at = put_register(&offers.bands, buffer, at);
-    let at = put_register(&offers.pairs, buffer, at);
-    let at = put_register(&offers.exclusions, buffer, at);
-    put_register(&offers.limits, buffer, at);
+    let at = put_register(&offers.packages.entries, buffer, 0);
+    let at = put_register(&offers.bands.entries, buffer, at);
+    let at = put_register(&offers.pairs.entries, buffer, at);
+    let at = put_register(&offers.exclusions.entries, buffer, at);
+    put_register(&offers.limits.entries, buffer, at);
     Ok(length)
 }
 
@@ -34,31 +34,27 @@ pub fn sheet_length(offers: &Offers) -> usize
     ensures value { result ≡ length (sheet_of (held offers.now)) }
     ensures sound { Sound (held offers.now) }
 {
-    register_length(&offers.packages)
-        + register_length(&offers.bands)
-        + register_length(&offers.pairs)
-        + register_length(&offers.exclusions)
-        + register_length(&offers.limits)
+    register_length(&offers.packages.entries)
+        + register_length(&offers.bands.entries)
+        + register_length(&offers.pairs.entries)
+        + register_length(&offers.exclusions.entries)
+        + register_length(&offers.limits.entries)
 }
 
-// The bytes of a register's fields.
+// The bytes of a register's fields. That a content's length fits its two bytes is asked here and twice below: a law of `Record` for it
+// would be one more thing to show of every kind, where the laws that there are took the place of contracts.
 fn register_length<R: Record>(entries: &[Entry<R>]) -> usize
     requires few { length entries.now ≤ 64 }
     requires short { content_size R.Record.layout < 2 ^ 16 }
     ensures value { result ≡ length (register_bytes R.Record.layout 1 entries.now) }
     ensures bound { result ≤ 64 * 65538 }
 {
-    let mut bytes = 0;
-    for entry in entries {
-        match entry {
-            Entry::Vacant => {}
-            _ => bytes += HEADER + content_bytes::<R>(),
-        }
-    }
-    bytes
+    let held = entries.iter().filter(|entry| !entry.is_vacant());
+    held.count() * (HEADER + content_bytes::<R>())
 }
 
-// Writes a register's fields from `at` on, and gives where they end.
+// Writes a register's fields from `at` on, and gives where they end. Buffer and place stay two parameters: a struct that holds the
+// borrow would say in each contract that it is still the same one.
 fn put_register<R: Record>(entries: &[Entry<R>], buffer: &mut [u8], at: usize) -> usize
     requires few { length entries.now ≤ 64 }
     requires short { content_size R.Record.layout < 2 ^ 16 }
@@ -68,34 +64,37 @@ fn put_register<R: Record>(entries: &[Entry<R>], buffer: &mut [u8], at: usize) -
     ensures back { drop result buffer.new ≡ drop result buffer.old }
 {
     let mut next = at;
-    let mut number = 1;
-    for entry in entries {
+    for (i, entry) in entries.iter().enumerate() {
+        let number = i as u8 + 1;
         next = match entry {
             Entry::Vacant => next,
-            Entry::Open(record) => put_field(buffer, next, number, OPEN, record),
-            Entry::Withdrawn(record) => put_field(buffer, next, number, WITHDRAWN, record),
+            Entry::Open(record) => put_field(buffer, next, number, Status::Open, record),
+            Entry::Withdrawn(record) => put_field(buffer, next, number, Status::Withdrawn, record),
         };
-        number += 1;
     }
     next
 }
 
 // Writes one field from `at` on, and gives where it ends.
-fn put_field<R: Record>(buffer: &mut [u8], at: usize, number: u8, status: u8, record: &R) -> usize
+fn put_field<R: Record>(
+    buffer: &mut [u8],
+    at: usize,
+    number: u8,
+    status: Status,
+    record: &R,
+) -> usize
     requires short { content_size R.Record.layout < 2 ^ 16 }
-    requires room { at + length (field_bytes R.Record.layout number status «record».now) ≤ length buffer.old }
-    ensures end { result ≡ at + length (field_bytes R.Record.layout number status «record».now) }
-    ensures front { take result buffer.new ≡ take at buffer.old ++ field_bytes R.Record.layout number status «record».now }
+    requires room { at + length (field_bytes R.Record.layout number (status_byte status) «record».now) ≤ length buffer.old }
+    ensures end { result ≡ at + length (field_bytes R.Record.layout number (status_byte status) «record».now) }
+    ensures front { take result buffer.new ≡ take at buffer.old ++ field_bytes R.Record.layout number (status_byte status) «record».now }
     ensures back { drop result buffer.new ≡ drop result buffer.old }
 {
     let content = content_bytes::<R>();
     let start = at + HEADER;
     let end = start + content;
-    buffer[at] = R::tag_byte();
-    buffer[at + 1] = (content / 256) as u8;
-    buffer[at + 2] = (content % 256) as u8;
-    buffer[start] = number;
-    buffer[start + 1] = status;
+    let [high, low] = (content as u16).to_be_bytes();
+    let front = [R::TAG, high, low, number, status.byte()];
+    buffer[at..start + 2].copy_from_slice(&front);
     record.write(&mut buffer[start + 2..end]);
     end
 }

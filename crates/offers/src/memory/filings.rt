@@ -2,9 +2,9 @@
 ghost use Rattle.std.specs.Prelude.{◌≡◌};
 ghost use Rattle.offers.specs.Memory.{held, vacant as all_vacant, file_offer, withdraw_offer, Kept};
 
+use crate::ledgers::Ledger;
 use crate::memory::{Kind, Offer, Offers};
 use crate::refusals::Refusal;
-use crate::registers::{Entry, Register};
 
 impl Offers {
     // The offers of a round that has none: every number is vacant.
@@ -12,11 +12,11 @@ impl Offers {
         ensures { held result ≡ all_vacant }
     {
         Offers {
-            packages: [Entry::Vacant; 40],
-            bands: [Entry::Vacant; 64],
-            pairs: [Entry::Vacant; 64],
-            exclusions: [Entry::Vacant; 64],
-            limits: [Entry::Vacant; 32],
+            packages: Ledger::vacant(),
+            bands: Ledger::vacant(),
+            pairs: Ledger::vacant(),
+            exclusions: Ledger::vacant(),
+            limits: Ledger::vacant(),
         }
     }
 
@@ -26,12 +26,13 @@ impl Offers {
         ensures after { held self.new ≡ (file_offer (held self.old) number offer).left }
         ensures kept { Kept (held self.old) result (held self.new) }
     {
+        // each arm files another type of record, so what a closure or a `dyn` could share is the name of the method
         match offer {
-            Offer::Package(new) => Register(&mut self.packages).file(number, new),
-            Offer::Band(new) => Register(&mut self.bands).file(number, new),
-            Offer::Pair(new) => Register(&mut self.pairs).file(number, new),
-            Offer::Exclusion(new) => Register(&mut self.exclusions).file(number, new),
-            Offer::Limit(new) => Register(&mut self.limits).file(number, new),
+            Offer::Package(new) => self.packages.file(number, new),
+            Offer::Band(new) => self.bands.file(number, new),
+            Offer::Pair(new) => self.pairs.file(number, new),
+            Offer::Exclusion(new) => self.exclusions.file(number, new),
+            Offer::Limit(new) => self.limits.file(number, new),
         }
     }
 
@@ -41,12 +42,13 @@ impl Offers {
         ensures after { held self.new ≡ (withdraw_offer (held self.old) kind number).left }
         ensures kept { Kept (held self.old) result (held self.new) }
     {
+        // a `dyn` ledger in their place would need this same match to be picked
         match kind {
-            Kind::Package => Register(&mut self.packages).withdraw(number),
-            Kind::Band => Register(&mut self.bands).withdraw(number),
-            Kind::Pair => Register(&mut self.pairs).withdraw(number),
-            Kind::Exclusion => Register(&mut self.exclusions).withdraw(number),
-            Kind::Limit => Register(&mut self.limits).withdraw(number),
+            Kind::Package => self.packages.withdraw(number),
+            Kind::Band => self.bands.withdraw(number),
+            Kind::Pair => self.pairs.withdraw(number),
+            Kind::Exclusion => self.exclusions.withdraw(number),
+            Kind::Limit => self.limits.withdraw(number),
         }
     }
 }

@@ -1,6 +1,6 @@
 // The checks that make a rule's numbers, and how they are read.
 ghost use Rattle.std.specs.Prelude.{◌≡◌, ◌-◌, ◌*◌, true, false, pos, ◌≤ℤ◌, Ok, Err, slice_index_or};
-ghost use Rattle.pricing.specs.Numbers.{zone_number, zone_numbers, currency_rates, refused_number};
+ghost use Rattle.pricing.specs.Numbers.{zone_numbers, currency_rates, refused_number};
 
 use crate::numbers::{Rates, ZoneNumbers};
 use offers::refusals::{Code, Refusal};
@@ -10,10 +10,11 @@ impl ZoneNumbers {
     pub fn new(numbers: [i64; 16]) -> Result<ZoneNumbers, Refusal>
         ensures { elim result [ Ok z ↦ (zone_numbers numbers ≡ true) × (z.numbers ≡ numbers) | Err e ↦ (zone_numbers numbers ≡ false) × (e ≡ refused_number) ] }
     {
-        for number in numbers.iter() {
-            if *number < -1_000 || *number > 1_000 {
-                return Err(refused_number());
-            }
+        if !numbers
+            .iter()
+            .all(|number| (-1_000..=1_000).contains(number))
+        {
+            return Err(Refusal::of(Code::FieldOutside));
         }
         Ok(ZoneNumbers { numbers })
     }
@@ -23,7 +24,7 @@ impl ZoneNumbers {
         ensures { result ≡ slice_index_or self.now.numbers (zone - 1) (pos 0) }
     {
         let at = (zone as usize).saturating_sub(1);
-        if at < 16 { self.numbers[at] } else { 0 }
+        self.numbers.get(at).copied().unwrap_or(0)
     }
 }
 
@@ -32,12 +33,8 @@ impl Rates {
     pub fn new(preference: u32, expectation: u32) -> Result<Rates, Refusal>
         ensures { elim result [ Ok z ↦ (currency_rates preference expectation ≡ true) × ((z.preference ≡ preference) × (z.expectation ≡ expectation)) | Err e ↦ (currency_rates preference expectation ≡ false) × (e ≡ refused_number) ] }
     {
-        if preference < 10_000
-            || preference > 11_000
-            || expectation < 5_000
-            || expectation > 20_000
-        {
-            return Err(refused_number());
+        if !(10_000..=11_000).contains(&preference) || !(5_000..=20_000).contains(&expectation) {
+            return Err(Refusal::of(Code::FieldOutside));
         }
         Ok(Rates {
             preference,
@@ -51,19 +48,5 @@ impl Rates {
         ensures bound { result ≤ℤ pos 220000000 }
     {
         self.preference as i64 * self.expectation as i64
-    }
-}
-
-// A refusal of a rule's number: the code, and nothing else.
-fn refused_number() -> Refusal
-    ensures { result ≡ refused_number }
-{
-    Refusal {
-        code: Code::FieldOutside,
-        tag: 0,
-        number: 0,
-        field: 0,
-        byte: 0,
-        depth: 0,
     }
 }

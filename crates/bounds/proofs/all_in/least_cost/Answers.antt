@@ -1,68 +1,115 @@
--- `least_cost`: each package is counted as it is free, taken or left out; there are at most 40, each of a price in range.
-use Rattle.std.proofs.Common.{◌≡◌, ℕ, ◌%◌, ◌<◌, ◌≤◌, true, false, List, length, get_or, vec_items, ap, ◌∙◌, arith}
+-- `least_cost`: at most 40 packages are counted in each loop, each of a price in range.
+use Rattle.std.proofs.Common.{◌≡◌, ℕ, ◌+◌, ◌*◌, ◌<◌, true, List, [], ◌∷◌, ◌++◌, length, get_or, take, vec_items, pos, negsuc, ◌+ℤ◌, ◌≤ℤ◌, sym, ap, ◌∙◌, arith, length-take}
+use Rattle.std.proofs.Math.Seq.{take-length}
+use Rattle.std.specs.Int.{int_min}
 use Rattle.std.proofs.lemmas.Int.{ints, clamps}
-use Rattle.std.proofs.lemmas.Bool.{eq-eqb, ne_eqb}
-use Rattle.clearing.specs.declared.dockets.Docket.{Docket}
+use Rattle.std.proofs.lemmas.Bool.{and_parts}
+use Rattle.std.proofs.lemmas.List.{length_push, take_more}
+use Rattle.std.proofs.lemmas.Iterator.{YieldsList-from_slice, YieldsList-from_take}
+use Rattle.std.proofs.lemmas.Iterator.Consumers.{YieldsList-turn, YieldsList-end}
 use Rattle.clearing.specs.declared.dockets.PricedPackage.{PricedPackage}
+use Rattle.clearing.specs.declared.dockets.Docket.{Docket}
+use Rattle.clearing.specs.Choices.{taken, cost}
 use Rattle.clearing.specs.Lawful.{view}
-use Rattle.clearing.proofs.Fits.{PricedRanges, priced_ranges}
-use Rattle.clearing.proofs.Held.{no_package, package_held}
+use Rattle.clearing.specs.Ranges.{each, package_fits}
+use Rattle.clearing.proofs.Fits.{each_take, priced_ranges}
 use Rattle.clearing.proofs.Ranged.{ranged_docket}
-use Rattle.bounds.specs.Blocks.{span}
-use Rattle.bounds.specs.Costs.{least_cost, least_first, counted_none, counted_all, counted_free, counted-fixed}
+use Rattle.clearing.proofs.Takings.{walk, next-room, next-fits, next-added, taken-priced}
+use Rattle.bounds.specs.Blocks.{Span, span}
+use Rattle.bounds.specs.Rules.{fixed, free_ones, below_zero}
 use Rattle.bounds.proofs.all_in.least_cost.Goals as goal
-use Rattle.bounds.proofs.all_in.least_cost.Goals.{then-i-block, else-i-block+then-digits-eq1, else-i-block+else-digits-eq1}
 
--- at each turn, the package at the place is in range, and there are few
-turn : (d : Docket) (items : List PricedPackage) (i : ℕ) → items ≡ vec_items d.packages → i < length items → PricedRanges (get_or items i no_package) × (length items ≤ 40)
-turn d items i held inside =
-    (priced_ranges (get_or items i no_package) (package_held d i items held inside), omega (arith, ap length held, (ranged_docket d).few_packages))
+-- one package more at the end counts what is below 0 of its price
+below_zero-last : (ps : List PricedPackage) (p : PricedPackage) → below_zero (ps ++ p ∷ []) ≡ below_zero ps +ℤ int_min p.price (pos 0)
+below_zero-last [] p = omega (arith, ints)
+below_zero-last (q ∷ ps) p = omega (arith, ints, below_zero-last ps p)
 
-pub loop-i-init : goal.loop-i-init
-loop-i-init c = counted_none (span c.args.block) c.deref-package-items.result.now
+-- packages in range count no more than the greatest price for each
+below_zero-between : (ps : List PricedPackage) → each package_fits ps ≡ true → (pos 0 ≤ℤ (below_zero ps +ℤ pos (20000000000 * length ps))) × (below_zero ps ≤ℤ pos 0)
+below_zero-between [] ok = (omega (arith, ints), omega (arith, ints))
+below_zero-between (p ∷ ps) ok =
+    let parts = and_parts (package_fits p) (each package_fits ps) ok in
+    let r = priced_ranges p parts.0 in
+    let rest = below_zero-between ps parts.1 in
+    (omega (arith, ints, clamps), omega (arith, ints, clamps))
+
+-- the next of the taken packages adds its price, and there is room for it
+taken-next : (d : Docket) (choice n : ℕ) (p : PricedPackage)
+    → (n < length (taken (vec_items d.packages) choice)) × (p ≡ get_or (taken (vec_items d.packages) choice) n p)
+    → (cost (take (n + 1) (taken (vec_items d.packages) choice)) ≡ cost (take n (taken (vec_items d.packages) choice)) +ℤ p.price)
+    × (negsuc 799999999999 ≤ℤ cost (take (n + 1) (taken (vec_items d.packages) choice)))
+    × (cost (take (n + 1) (taken (vec_items d.packages) choice)) ≤ℤ pos 800000000000)
+taken-next d choice n p next =
+    let room = next-room d choice n p next in
+    let r = priced_ranges p (next-fits d choice n p next) in
+    let more = sym (ap (λ t. t.cost) (next-added d choice n p next)) in
+    (more, omega (arith, ints, more), omega (arith, ints, more))
+
+-- the next of some packages counts what is below 0 of its price
+free-next : (ps : List PricedPackage) (n : ℕ) (p : PricedPackage) → (n < length ps) × (p ≡ get_or ps n p)
+    → below_zero (take (n + 1) ps) ≡ below_zero (take n ps) +ℤ int_min p.price (pos 0)
+free-next ps n p next =
+    ap below_zero (take_more ps n p next.0)
+    ∙ below_zero-last (take n ps) (get_or ps n p)
+    ∙ ap (λ q. below_zero (take n ps) +ℤ int_min q.price (pos 0)) (sym next.1)
+
+-- the first so many of the free packages count no more than 40 of the greatest price
+free-between : (d : Docket) (b : Span) (n : ℕ) → (negsuc 799999999999 ≤ℤ below_zero (take n (free_ones (view d) b))) × (below_zero (take n (free_ones (view d) b)) ≤ℤ pos 0)
+free-between d b n =
+    let all = free_ones (view d) b in
+    let between = below_zero-between (take n all) (each_take package_fits n all (each_take package_fits b.free (vec_items d.packages) d.packages_fit)) in
+    (omega (arith, ints, between.0, length-take n all, length-take b.free (vec_items d.packages), (ranged_docket d).few_packages), between.1)
 
 pub overflow_add-cost : goal.overflow_add-cost
 overflow_add-cost c =
-    let here = turn c.args.docket.now c.deref-package-items.result.now c.loop-i.i c.deref-package-items.ensures.value c.loop-i-test.true in
-    omega (arith, ints, clamps, here.0.price_least, here.0.price, here.1)
+    let road = walk c.args.docket.now c.args.block.first c.into_iter-package-iterator.result cc in
+    let t = YieldsList-turn road c.loop-package.yielded _ c.loop-package.yielded_by _ c.next.new.self c.in-Some.package c.in-Some.is c.next.ensures.steps in
+    let next = taken-next c.args.docket.now c.args.block.first _ c.in-Some.package.now t in
+    omega (arith, ints, next.0, next.1, next.2)
 
-pub overflow_add-cost-then-digits-eq1 : goal.overflow_add-cost-then-digits-eq1
-overflow_add-cost-then-digits-eq1 c =
-    let here = turn c.args.docket.now c.deref-package-items.result.now c.loop-i.i c.deref-package-items.ensures.value c.loop-i-test.true in
-    omega (arith, ints, here.0.price_least, here.0.price, here.1)
+pub loop-package-preserved : goal.loop-package-preserved
+loop-package-preserved c =
+    let road = walk c.args.docket.now c.args.block.first c.into_iter-package-iterator.result cc in
+    let t = YieldsList-turn road c.loop-package.yielded _ c.loop-package.yielded_by _ c.next.new.self c.in-Some.package c.in-Some.is c.next.ensures.steps in
+    let next = taken-next c.args.docket.now c.args.block.first _ c.in-Some.package.now t in
+    rw (length_push c.loop-package.yielded c.in-Some.package) (omega (arith, ints, next.0, next.1, next.2))
 
-pub loop-i-preserved : goal.loop-i-preserved
-loop-i-preserved c =
-    let b = span c.args.block in
-    let items = c.deref-package-items.result.now in
-    let now = c.loop-i in
-    let inside = c.loop-i-test.true in
-    let here = turn c.args.docket.now items now.i c.deref-package-items.ensures.value inside in
-    elim c.if-i-block.branch [
-      | then-i-block w ↦
-          counted_free b items now.i _ now.digits no_package inside now.invariant here.0 _ w.if-i-block.true
-          (omega (arith, ints, clamps, w.cost-is, here.0.price_least, here.0.price, here.1))
-      | else-i-block+then-digits-eq1 w ↦
-          counted-fixed b items now.i _ now.digits no_package inside now.invariant here.0 _ w.if-i-block.false
-          true (eq-eqb (now.digits % 2) 1 w.if-digits-eq1.true)
-          (omega (arith, ints, w.cost-is, here.0.price_least, here.0.price, here.1))
-      | else-i-block+else-digits-eq1 w ↦
-          counted-fixed b items now.i _ now.digits no_package inside now.invariant here.0 _ w.if-i-block.false
-          false (ne_eqb (now.digits % 2) 1 w.if-digits-eq1.false)
-          (omega (arith, ints, w.cost-is))
-    ]
+pub loop-free-init : goal.loop-free-init
+loop-free-init c =
+    let all = fixed (view c.args.docket.now) (span c.args.block) in
+    let t = YieldsList-end (walk c.args.docket.now c.args.block.first c.into_iter-package-iterator.result cc) c.loop-package.yielded _ c.loop-package.yielded_by _ c.next.new.self c.in-None.is c.next.ensures.steps in
+    omega (arith, ints, c.loop-package.invariant, ap (λ n. cost (take n all)) t.1, ap cost (take-length all))
 
-pub returns : goal.returns
-returns c =
+pub overflow_add-cost-in-loop-free : goal.overflow_add-cost-in-loop-free
+overflow_add-cost-in-loop-free c =
     let d = c.args.docket.now in
     let b = span c.args.block in
-    let items = c.deref-package-items.ensures in
-    let few = (ranged_docket d).few_packages in
-    record {
-      value = λ block.
-          counted_all b c.deref-package-items.result.now c.loop-i.i _ c.loop-i.digits c.loop-i-test.false c.loop-i.invariant
-          ∙ ap (least_cost b.free b.first) items.value
-          ∙ least_first (view d) b block;
-      low = omega (arith, ints, items.len, few);
-      high = omega (arith, ints, items.len, few);
-    }
+    let road = YieldsList-from_take {s = c.into_iter-free-iterator.result} b.free (YieldsList-from_slice (vec_items d.packages) cc) cc in
+    let t = YieldsList-turn road c.loop-free.yielded _ c.loop-free.yielded_by _ c.next-in-loop-free.new.self c.in-Some-free.free c.in-Some-free.is c.next-in-loop-free.ensures.steps in
+    let next = free-next (free_ones (view d) b) _ c.in-Some-free.free.now t in
+    let between = free-between d b (length c.loop-free.yielded + 1) in
+    let priced = taken-priced d b.first in
+    omega (arith, ints, clamps)
+
+pub loop-free-preserved : goal.loop-free-preserved
+loop-free-preserved c =
+    let d = c.args.docket.now in
+    let b = span c.args.block in
+    let road = YieldsList-from_take {s = c.into_iter-free-iterator.result} b.free (YieldsList-from_slice (vec_items d.packages) cc) cc in
+    let t = YieldsList-turn road c.loop-free.yielded _ c.loop-free.yielded_by _ c.next-in-loop-free.new.self c.in-Some-free.free c.in-Some-free.is c.next-in-loop-free.ensures.steps in
+    let next = free-next (free_ones (view d) b) _ c.in-Some-free.free.now t in
+    let between = free-between d b (length c.loop-free.yielded + 1) in
+    let priced = taken-priced d b.first in
+    rw (length_push c.loop-free.yielded c.in-Some-free.free) (omega (arith, ints, clamps))
+
+pub returns-clause-low : goal.returns-clause-low
+returns-clause-low c =
+    let between = free-between c.args.docket.now (span c.args.block) (length c.loop-free.yielded) in
+    let priced = taken-priced c.args.docket.now c.args.block.first in
+    omega (arith, ints, c.loop-free.invariant)
+
+pub returns-clause-high : goal.returns-clause-high
+returns-clause-high c =
+    let between = free-between c.args.docket.now (span c.args.block) (length c.loop-free.yielded) in
+    let priced = taken-priced c.args.docket.now c.args.block.first in
+    omega (arith, ints, c.loop-free.invariant)

@@ -1,7 +1,14 @@
--- What the loop of `least_cost` keeps true: the packages so far are counted, and the digits left are those of the rest.
+-- What the loops of `least_cost` keep true: the first so many of the taken packages are counted, and then of the free ones.
+use Rattle.std.proofs.Common.{◌≡◌, ◌+ℤ◌, length, take}
+use Rattle.clearing.specs.Choices.{cost}
+use Rattle.clearing.specs.Lawful.{view}
 use Rattle.bounds.specs.Blocks.{span}
-use Rattle.bounds.specs.Costs.{Counted}
+use Rattle.bounds.specs.Rules.{fixed, free_ones, below_zero}
 use Rattle.bounds.proofs.all_in.least_cost.Given as goal
 
-abbrev pub invariant-loop-i : goal.invariant-loop-i
-invariant-loop-i l = Counted (span l.block) l.package-items l.i l.cost l.digits
+abbrev pub invariant-loop-package : goal.invariant-loop-package
+invariant-loop-package l = l.cost ≡ cost (take (length l.yielded) (fixed (view l.docket) (span l.block)))
+
+abbrev pub invariant-loop-free : goal.invariant-loop-free
+invariant-loop-free l =
+    l.cost ≡ cost (fixed (view l.docket) (span l.fn.block)) +ℤ below_zero (take (length l.yielded) (free_ones (view l.docket) (span l.fn.block)))

@@ -14,19 +14,19 @@ loop-i-init c = (refl, omega arith)
 
 pub overflow_add-ahead : goal.overflow_add-ahead
 overflow_add-ahead c =
-    let ranges = band_ranges c.in-Open.other (open_fits band_layout c.args.entries.now c.loop-i.i _ c.requires c.in-Open.is) in
+    let ranges = band_ranges c.in-Open.other (open_fits band_layout c.args.ledger.now.entries c.loop-i.i _ c.args.ledger.now.in_range c.in-Open.is) in
     omega arith
 
 pub loop-i-preserved : goal.loop-i-preserved
 loop-i-preserved c =
-    let es = c.args.entries.now in
+    let es = c.args.ledger.now.entries in
     let i = c.loop-i.i in
     let band : Numbered Band = record { number = c.args.at + 1; of = c.args.band.now } in
     let inside : i < length es = omega arith in
     elim c.match-entry.branch [
       | in-Open+then-comes_ahead w ↦
           let other = w.in-Open.other in
-          let ranges = band_ranges other (open_fits band_layout es i other c.requires w.in-Open.is) in
+          let ranges = band_ranges other (open_fits band_layout es i other c.args.ledger.now.in_range w.in-Open.is) in
           let first = ahead_by_place other c.args.band.now i c.args.at ∙ sym w.if-comes_ahead.ensures in
           let more = ahead_open es i band inside other w.in-Open.is in
           let counted = cond-true _ other.quantity 0 first in
@@ -44,7 +44,7 @@ loop-i-preserved c =
 
 pub returns : goal.returns
 returns c =
-    let all = all_opened c.args.entries.now c.loop-i.i (omega arith) in
+    let all = all_opened c.args.ledger.now.entries c.loop-i.i (omega arith) in
     record {
       value = c.loop-i.invariant.0 ∙ ap (λ bs. ahead_of bs (record { number = c.args.at + 1; of = c.args.band.now })) all;
       bound = omega arith;

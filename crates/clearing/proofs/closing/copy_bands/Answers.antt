@@ -15,7 +15,7 @@ push_reserved-requires c = omega (arith, c.loop-i.invariant.few, c.loop-i.invari
 
 pub loop-i-preserved : goal.loop-i-preserved
 loop-i-preserved c =
-    let es = c.args.entries.now in
+    let es = c.args.ledger.now.entries in
     let i = c.loop-i.i in
     elim c.match-entry.branch [
       | in-Open w ↦
@@ -23,7 +23,7 @@ loop-i-preserved c =
           rw w.into-is (one_more _ _ es _ c.loop-i.into i (omega arith) c.loop-i.invariant w.push_reserved.new.self r
           (record { number = i + 1; ahead = w.ahead_of.result; «record» = r }) w.in-Open.is
           (ap (λ n. record { number = i + 1; ahead = n; «record» = r }) w.ahead_of.ensures.value)
-          (and_from _ _ (open_fits band_layout es i r c.requires.in_range w.in-Open.is)
+          (and_from _ _ (open_fits band_layout es i r c.args.ledger.now.in_range w.in-Open.is)
           (and_from _ _ (within-from 1 64 (i + 1) (omega arith) (omega arith)) (le-leb _ 6400000000 w.ahead_of.ensures.bound)))
           w.push_reserved.ensures.items w.push_reserved.ensures.len w.push_reserved.ensures.capacity)
       | in_default w ↦ none_more _ _ es _ c.loop-i.into i (omega arith) c.loop-i.invariant _ w.in_default.not-Open w.into-is
@@ -35,5 +35,5 @@ returns c =
       capacity = c.loop-i.invariant.same ∙ c.clear.ensures.capacity;
       len = omega (arith, c.loop-i.invariant.few);
       fit = c.loop-i.invariant.fit;
-      items = all_copied _ _ c.args.entries.now _ c.loop-i.into c.loop-i.i (omega arith) c.loop-i.invariant;
+      items = all_copied _ _ c.args.ledger.now.entries _ c.loop-i.into c.loop-i.i (omega arith) c.loop-i.invariant;
     }

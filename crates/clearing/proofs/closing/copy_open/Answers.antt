@@ -1,5 +1,5 @@
 -- `copy_open`: an open record is in range.
-use Rattle.std.proofs.Common.{sym, refl, ◌∙◌, arith}
+use Rattle.std.proofs.Common.{◌<◌, length, sym, refl, ◌∙◌, arith}
 use Rattle.std.proofs.lemmas.List.{get_or_read}
 use Rattle.offers.specs.declared.registers.Entry.TheVariants.{Vacant}
 use Rattle.clearing.proofs.Fits.{open_fits}
@@ -11,28 +11,28 @@ pub loop-entry-init : goal.loop-entry-init
 loop-entry-init g c = none_copied _ _ _ _ c.clear.new.self c.clear.ensures.items c.clear.ensures.len refl
 
 pub push_reserved-requires : goal.push_reserved-requires
-push_reserved-requires g c = omega (arith, c.loop-entry.invariant.few, c.loop-entry.invariant.same)
+push_reserved-requires g c = omega (arith, c.loop-entry.invariant.few, c.loop-entry.invariant.same, c.args.ledger.now.whole)
 
 pub loop-entry-preserved : goal.loop-entry-preserved
 loop-entry-preserved g c =
-    let es = c.args.entries.now in
+    let es = c.args.ledger.now.entries in
     let i = c.loop-entry.entry-index in
-    let inside = c.loop-entry-test.true in
+    let inside : i < length es = omega (arith, c.args.ledger.now.whole) in
     let read = get_or_read es i c.entry-item.result inside c.entry-item.is Vacant in
     elim c.match-entry.branch [
       | in-Open w ↦
-          let is = sym read ∙ w.in-Open.is in
+          let is = sym read ∙ c.entry-item.is ∙ w.in-Open.is in
           rw w.into-is (one_more _ _ es _ c.loop-entry.into i inside c.loop-entry.invariant w.push_reserved.new.self w.in-Open.«record» _ is refl
-          (open_fits g.R.Record.layout es i _ c.requires.in_range is)
+          (open_fits g.R.Record.layout es i _ c.args.ledger.now.in_range is)
           w.push_reserved.ensures.items w.push_reserved.ensures.len w.push_reserved.ensures.capacity)
-      | in_default w ↦ none_more _ _ es _ c.loop-entry.into i inside c.loop-entry.invariant _ (λ r is. w.in_default.not-Open r (read ∙ is)) w.into-is
+      | in_default w ↦ none_more _ _ es _ c.loop-entry.into i inside c.loop-entry.invariant _ (λ r is. w.in_default.not-Open r (sym c.entry-item.is ∙ read ∙ is)) w.into-is
     ]
 
 pub returns : goal.returns
 returns g c =
     record {
       capacity = c.loop-entry.invariant.same ∙ c.clear.ensures.capacity;
-      len = omega (arith, c.loop-entry.invariant.few);
+      len = omega (arith, c.loop-entry.invariant.few, c.args.ledger.now.whole);
       fit = c.loop-entry.invariant.fit;
-      items = all_copied _ _ c.args.entries.now _ c.loop-entry.into c.loop-entry.entry-index c.loop-entry-test.false c.loop-entry.invariant;
+      items = all_copied _ _ c.args.ledger.now.entries _ c.loop-entry.into c.loop-entry.entry-index (omega (arith, c.args.ledger.now.whole)) c.loop-entry.invariant;
     }

@@ -6,4 +6,4 @@ use Rattle.clearing.proofs.closing.copy_open.Given as goal
 
 abbrev pub invariant-loop-entry : goal.invariant-loop-entry
 invariant-loop-entry g l =
-    Copied (fits g.R.Record.layout) (λ r. r.of) l.entries (vec_capacity l.initial.into) l.entry-index l.into
+    Copied (fits g.R.Record.layout) (λ r. r.of) l.ledger.entries (vec_capacity l.initial.into) l.entry-index l.into

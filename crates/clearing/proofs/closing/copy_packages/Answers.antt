@@ -16,7 +16,7 @@ push_reserved-requires c = omega (arith, c.loop-i.invariant.few, c.loop-i.invari
 
 pub loop-i-preserved : goal.loop-i-preserved
 loop-i-preserved c =
-    let es = c.args.entries.now in
+    let es = c.args.ledger.now.entries in
     let i = c.loop-i.i in
     let price = get_or c.args.prices.now i (pos 0) in
     elim c.match-entry.branch [
@@ -28,7 +28,7 @@ loop-i-preserved c =
           rw w.into-is (one_more _ _ es _ c.loop-i.into i (omega arith) c.loop-i.invariant w.push_reserved.new.self r
           (record { number = i + 1; price = to_z w64 (of_z w64 price); «record» = r }) w.in-Open.is
           (ap (λ z. record { number = i + 1; price = z; «record» = r }) (stored ∙ ap (λ n. get_or c.args.prices.now n (pos 0)) past))
-          (and_from _ _ (open_fits package_layout es i r c.requires.in_range w.in-Open.is)
+          (and_from _ _ (open_fits package_layout es i r c.args.ledger.now.in_range w.in-Open.is)
           (and_from _ _ (within-from 1 40 (i + 1) (omega arith) (omega arith)) (subst (λ z. price_fits z ≡ true) (sym stored) fit)))
           w.push_reserved.ensures.items w.push_reserved.ensures.len w.push_reserved.ensures.capacity)
       | in_default w ↦ none_more _ _ es _ c.loop-i.into i (omega arith) c.loop-i.invariant _ w.in_default.not-Open w.into-is
@@ -40,5 +40,5 @@ returns c =
       capacity = c.loop-i.invariant.same ∙ c.clear.ensures.capacity;
       len = omega (arith, c.loop-i.invariant.few);
       fit = c.loop-i.invariant.fit;
-      items = all_copied _ _ c.args.entries.now _ c.loop-i.into c.loop-i.i (omega arith) c.loop-i.invariant;
+      items = all_copied _ _ c.args.ledger.now.entries _ c.loop-i.into c.loop-i.i (omega arith) c.loop-i.invariant;
     }

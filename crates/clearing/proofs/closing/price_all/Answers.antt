@@ -7,11 +7,11 @@ use Rattle.clearing.proofs.closing.price_all.Goals as goal
 use Rattle.clearing.proofs.closing.price_all.Goals.{in-Open+in-Ok, in_default}
 
 pub loop-i-init : goal.loop-i-init
-loop-i-init g c = record { long = sym c.told-entries; fit = refl; same = refl; so = λ k h. absurd (omega arith) }
+loop-i-init g c = record { long = sym c.args.ledger.now.whole; fit = refl; same = refl; so = λ k h. absurd (omega arith) }
 
 pub loop-i-preserved : goal.loop-i-preserved
 loop-i-preserved g c =
-    let es = c.args.entries.now in
+    let es = c.args.ledger.now.entries in
     let i = c.loop-i.i in
     let inv = c.loop-i.invariant in
     elim c.match-entry.branch [
@@ -30,7 +30,7 @@ pub returns : goal.returns
 returns g c =
     record {
       fit = c.loop-i.invariant.fit;
-      answer = all_priced _ c.args.entries.now c.loop-i.i c.loop-i.prices (omega arith) c.loop-i.invariant.so;
+      answer = all_priced _ c.args.ledger.now.entries c.loop-i.i c.loop-i.prices (omega arith) c.loop-i.invariant.so;
       same_rule = c.loop-i.invariant.same;
     }
 
@@ -41,7 +41,7 @@ returns-in-Err g c =
     record {
       fit = tt;
       answer =
-          refused_at _ c.args.entries.now c.loop-i.prices c.loop-i.i c.in-Open.package c.in-Err.fault inv.so c.in-Open.is fault
+          refused_at _ c.args.ledger.now.entries c.loop-i.prices c.loop-i.i c.in-Open.package c.in-Err.fault inv.so c.in-Open.is fault
           ∙ ap Err (sym c.price_fault.ensures);
       same_rule = c.price.ensures.same ∙ inv.same;
     }

@@ -1,61 +1,36 @@
--- `exclusions_kept`: a group has a place, and its member is the number of a package.
-use Rattle.std.proofs.Common.{◌≡◌, ◌-◌, ◌⊎◌, get_or, sym, subst, inl, inr, arith}
+-- `exclusions_kept`: the taken member that stands for a group is compared with each that comes after it.
+use Rattle.std.proofs.Common.{◌≡◌, ◌-◌, ℕ, Some, None, get_or, sym, subst, ◌∙◌}
 use Rattle.clearing.specs.Kept.{ExclusionsKept}
-use Rattle.clearing.proofs.Held.{no_exclusion, exclusion_held}
-use Rattle.clearing.proofs.Exclusions.{firsts_passed, firsts_taken, firsts_differ, firsts_all}
+use Rattle.clearing.proofs.Held.{no_exclusion}
+use Rattle.clearing.proofs.Exclusions.{one_member, firsts_passed, firsts_taken, firsts_differ, firsts_all}
 use Rattle.clearing.proofs.Tested.{decided_true, decided_false}
 use Rattle.clearing.proofs.lawful.exclusions_kept.Goals as goal
-use Rattle.clearing.proofs.lawful.exclusions_kept.Goals.{then-taken-exclusion+else-first-group-ne0, else-taken-exclusion, else-first-group-ne0-via-then-first-group-ne0+else-first-group, else-first-group-ne0-via-else-first-group-ne0}
-
-pub overflow_sub-group : goal.overflow_sub-group
-overflow_sub-group c =
-    let ranges = exclusion_held c.args.docket.now c.loop-exclusion.exclusion-index _ c.deref-exclusion-items.ensures.value c.loop-exclusion-test.true in
-    omega arith
-
-pub bounds-taken-exclusion : goal.bounds-taken-exclusion
-bounds-taken-exclusion c =
-    let ranges = exclusion_held c.args.docket.now c.loop-exclusion.exclusion-index _ c.deref-exclusion-items.ensures.value c.loop-exclusion-test.true in
-    omega arith
-
-pub bounds-first-group : goal.bounds-first-group
-bounds-first-group c =
-    let ranges = exclusion_held c.args.docket.now c.loop-exclusion.exclusion-index _ c.deref-exclusion-items.ensures.value c.loop-exclusion-test.true in
-    omega arith
-
-pub bounds-first-group-then-first-group-ne0 : goal.bounds-first-group-then-first-group-ne0
-bounds-first-group-then-first-group-ne0 c =
-    let ranges = exclusion_held c.args.docket.now c.loop-exclusion.exclusion-index _ c.deref-exclusion-items.ensures.value c.loop-exclusion-test.true in
-    omega arith
-
-pub bounds-first-group-then-taken-exclusion : goal.bounds-first-group-then-taken-exclusion
-bounds-first-group-then-taken-exclusion c =
-    let ranges = exclusion_held c.args.docket.now c.loop-exclusion.exclusion-index _ c.deref-exclusion-items.ensures.value c.loop-exclusion-test.true in
-    omega arith
+use Rattle.clearing.proofs.lawful.exclusions_kept.Goals.{then-taken-member+in_default, in_default-via-in-Some+else-other-member, in_default-via-in_default, else-taken-member}
 
 pub loop-exclusion-preserved : goal.loop-exclusion-preserved
 loop-exclusion-preserved c =
     let xs = c.deref-exclusion-items.result.now in
     let here = c.loop-exclusion in
-    elim c.if-taken-exclusion.branch [
-      | then-taken-exclusion+else-first-group-ne0 w ↦
+    elim c.if-taken-member.branch [
+      | then-taken-member+in_default w ↦
           let x = get_or xs here.exclusion-index no_exclusion in
-          let free : (get_or here.first (x.group - 1) 0 ≡ 0) ⊎ (get_or here.first (x.group - 1) 0 ≡ x.member) =
-          elim w.else-first-group-ne0.branch [
-            | else-first-group-ne0-via-then-first-group-ne0+else-first-group v ↦ inr v.if-first-group.false
-            | else-first-group-ne0-via-else-first-group-ne0 v ↦ inl v.if-first-group-ne0.false
+          let free : (other : ℕ) → get_or here.first (x.group - 1) None ≡ Some other → other ≡ x.member =
+          λ other is. elim w.in_default.branch [
+            | in_default-via-in-Some+else-other-member v ↦ one_member _ _ (sym is ∙ v.in-Some.is) ∙ v.if-other-member.false
+            | in_default-via-in_default v ↦ cc
           ] in
-          firsts_taken c.args.docket.now xs c.deref-exclusion-items.ensures.value c.args.taken.now.takes here.exclusion-index here.first c.loop-exclusion-test.true here.invariant _ w.if-taken-exclusion.true free w.first-is
-      | else-taken-exclusion w ↦
-          firsts_passed c.args.docket.now xs c.deref-exclusion-items.ensures.value c.args.taken.now.takes here.exclusion-index here.first c.loop-exclusion-test.true here.invariant _ w.if-taken-exclusion.false w.first-is
+          firsts_taken c.args.docket.now xs c.deref-exclusion-items.ensures.value c.args.taken.now.takes here.exclusion-index here.first c.loop-exclusion-test.true here.invariant _ w.if-taken-member.true free w.first-is
+      | else-taken-member w ↦
+          firsts_passed c.args.docket.now xs c.deref-exclusion-items.ensures.value c.args.taken.now.takes here.exclusion-index here.first c.loop-exclusion-test.true here.invariant _ w.if-taken-member.false w.first-is
     ]
 
-pub returns-then-first-group : goal.returns-then-first-group
-returns-then-first-group c =
+pub returns-in-Some : goal.returns-in-Some
+returns-in-Some c =
     let xs = c.deref-exclusion-items.result.now in
     let here = c.loop-exclusion in
     decided_false (λ kept.
     firsts_differ c.args.docket.now xs c.deref-exclusion-items.ensures.value c.args.taken.now.takes here.exclusion-index here.first c.loop-exclusion-test.true here.invariant
-    c.if-taken-exclusion.true c.if-first-group-ne0.true c.if-first-group.true
+    c.if-taken-member.true c.in-Some.other c.in-Some.is c.if-other-member.true
     (subst (λ es. ExclusionsKept es c.args.taken.now.takes) (sym c.deref-exclusion-items.ensures.value) kept))
 
 pub returns : goal.returns

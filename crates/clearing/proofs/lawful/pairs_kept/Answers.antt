@@ -1,36 +1,27 @@
--- `pairs_kept`: a pair fails where its dependent package is taken without the needed one.
-use Rattle.std.proofs.Common.{arith}
-use Rattle.std.proofs.ByRecursion.{All-more}
-use Rattle.std.proofs.lemmas.Bool.{both_ways}
-use Rattle.clearing.proofs.Held.{no_pair, pair_held}
-use Rattle.clearing.proofs.Tested.{one_fails, all_tested}
+-- `pairs_kept`: both packages of a pair have places, where the tests read whether they are taken.
+use Rattle.std.proofs.Common.{get_or, vec_items, false, rules, tests, arith}
+use Rattle.std.proofs.lemmas.Iterator.{YieldsList-from_slice}
+use Rattle.std.proofs.lemmas.Iterator.Adapters.{serves_from_places}
+use Rattle.std.proofs.lemmas.Iterator.Search.{all_from_yields_List}
+use Rattle.offers.specs.declared.records.Pair.{Pair}
+use Rattle.offers.specs.Tables.{pair_layout}
+use Rattle.clearing.specs.Judging.{implies}
+use Rattle.clearing.specs.Ranges.{fits}
+use Rattle.clearing.proofs.Fits.{each_item, pair_ranges}
+use Rattle.clearing.proofs.Tested.{tested-all, implies_decides, itself}
 use Rattle.clearing.proofs.lawful.pairs_kept.Goals as goal
-use Rattle.clearing.proofs.lawful.pairs_kept.Goals.{else-taken-pair-via-then-taken-pair+else-not-within-pair, else-taken-pair-via-else-taken-pair}
 
-pub bounds-taken-pair : goal.bounds-taken-pair
-bounds-taken-pair c =
-    omega (arith, pair_held c.args.docket.now c.loop-pair.pair-index _ c.deref-pair-items.ensures.value c.loop-pair-test.true)
-
-pub bounds-within-pair : goal.bounds-within-pair
-bounds-within-pair c =
-    omega (arith, pair_held c.args.docket.now c.loop-pair.pair-index _ c.deref-pair-items.ensures.value c.loop-pair-test.true)
-
-pub loop-pair-preserved : goal.loop-pair-preserved
-loop-pair-preserved c =
-    let pairs = c.deref-pair-items.result.now in
-    let here = c.loop-pair in
-    elim c.else-taken-pair.branch [
-      | else-taken-pair-via-then-taken-pair+else-not-within-pair w ↦
-          All-more _ pairs here.pair-index no_pair c.loop-pair-test.true here.invariant (λ _. w.if-not-within-pair.false)
-      | else-taken-pair-via-else-taken-pair w ↦
-          All-more _ pairs here.pair-index no_pair c.loop-pair-test.true here.invariant (λ chosen. absurd (both_ways _ w.if-taken-pair.false chosen))
-    ]
-
-pub returns-then-not-within-pair : goal.returns-then-not-within-pair
-returns-then-not-within-pair c =
-    one_fails _ c.deref-pair-items.result.now _ c.deref-pair-items.ensures.value c.loop-pair.pair-index no_pair c.loop-pair-test.true
-    (λ kept. both_ways _ c.if-not-within-pair.true (kept c.if-taken-pair.true))
+pub all-requires-clause-callable : goal.all-requires-clause-callable
+all-requires-clause-callable c =
+    let d = c.args.docket.now in
+    serves_from_places (YieldsList-from_slice (vec_items d.pairs) cc) (λ x q h. search rules)
+    (λ x k h e.
+    let r = pair_ranges x.now (each_item (fits pair_layout) (vec_items d.pairs) k x.now h e d.pairs_fit) in
+    search (rules, arith))
 
 pub returns : goal.returns
 returns c =
-    all_tested _ c.deref-pair-items.result.now _ c.deref-pair-items.ensures.value c.loop-pair.pair-index c.loop-pair-test.false c.loop-pair.invariant
+    let pairs = vec_items c.args.docket.now.pairs in
+    tested-all (λ (p : Pair). implies (get_or c.args.taken.now.takes p.dependent false) (get_or c.args.within.now.takes p.needed false)) _
+    (λ p. implies_decides _ _ (itself _) (itself _)) pairs c.all.result
+    (all_from_yields_List _ _ _ c.all.result c.all.ensures.ran (YieldsList-from_slice pairs cc) (λ x b q k. search (rules, tests)))

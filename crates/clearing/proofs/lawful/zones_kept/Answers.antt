@@ -1,24 +1,25 @@
--- `zones_kept`: a limit fails where what counts against it is more than its amount.
-use Rattle.std.proofs.Common.{arith}
-use Rattle.std.proofs.ByRecursion.{All-more}
-use Rattle.clearing.proofs.Held.{no_limit, limit_held}
-use Rattle.clearing.proofs.Tested.{one_fails, all_tested, load_within, load_from}
+-- `zones_kept`: each limit is in range, and is kept where what counts against it is at most its amount.
+use Rattle.std.proofs.Common.{◌-◌, leb, eqb, cond, get_or, vec_items, rules, tests}
+use Rattle.std.proofs.lemmas.Iterator.{YieldsList-from_slice}
+use Rattle.std.proofs.lemmas.Iterator.Adapters.{serves_from_places}
+use Rattle.std.proofs.lemmas.Iterator.Search.{all_from_yields_List}
+use Rattle.offers.specs.declared.records.Limit.{Limit}
+use Rattle.offers.specs.Tables.{limit_layout}
+use Rattle.clearing.specs.Ranges.{fits}
+use Rattle.clearing.proofs.Fits.{each_item}
+use Rattle.clearing.proofs.Tested.{tested-all, load_decides}
 use Rattle.clearing.proofs.lawful.zones_kept.Goals as goal
 
-pub zone_load-requires : goal.zone_load-requires
-zone_load-requires c =
-    limit_held c.args.docket.now c.loop-limit.limit-index _ c.deref-limit-items.ensures.value c.loop-limit-test.true
-
-pub loop-limit-preserved : goal.loop-limit-preserved
-loop-limit-preserved c =
-    All-more _ c.deref-limit-items.result.now c.loop-limit.limit-index no_limit c.loop-limit-test.true c.loop-limit.invariant
-    (load_within _ _ _ _ c.zone_load.result c.zone_load.ensures c.if-zone_load-limit.false)
-
-pub returns-then-zone_load-limit : goal.returns-then-zone_load-limit
-returns-then-zone_load-limit c =
-    one_fails _ c.deref-limit-items.result.now _ c.deref-limit-items.ensures.value c.loop-limit.limit-index no_limit c.loop-limit-test.true
-    (λ kept. omega (arith, load_from _ _ _ _ c.zone_load.result c.zone_load.ensures kept, c.if-zone_load-limit.true))
+pub all-requires-clause-callable : goal.all-requires-clause-callable
+all-requires-clause-callable c =
+    let d = c.args.docket.now in
+    serves_from_places (YieldsList-from_slice (vec_items d.limits) cc) (λ x q h. search rules)
+    (λ x k h e. let ok = each_item (fits limit_layout) (vec_items d.limits) k x.now h e d.limits_fit in search (rules, ok))
 
 pub returns : goal.returns
 returns c =
-    all_tested _ c.deref-limit-items.result.now _ c.deref-limit-items.ensures.value c.loop-limit.limit-index c.loop-limit-test.false c.loop-limit.invariant
+    let limits = vec_items c.args.docket.now.limits in
+    let t = c.args.taken.now in
+    tested-all (λ (l : Limit). leb (cond (eqb l.sort 1) (get_or t.nameplate (l.zone - 1) 0) (cond (eqb l.sort 2) (get_or t.export (l.zone - 1) 0) 0)) l.amount) _
+    (λ l. load_decides l.sort _ _ l.amount) limits c.all.result
+    (all_from_yields_List _ _ _ c.all.result c.all.ensures.ran (YieldsList-from_slice limits cc) (λ x b q k. search (rules, tests)))

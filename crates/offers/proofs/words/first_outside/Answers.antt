@@ -1,28 +1,38 @@
--- `first_outside`: each turn takes one test off those that are left.
-use Rattle.std.proofs.Common.{◌≡◌, ℕ, ◌+◌, ◌<◌, Bool, false, cond, List, length, get_or, drop, sym, ap, ◌∙◌, arith}
-use Rattle.std.proofs.lemmas.List.{at_drop_more, at_drop_all}
+-- `first_outside`: the first false one is at the place that is found.
+use Rattle.std.proofs.Common.{◌≡◌, ℕ, zero, suc, ◌+◌, ◌<◌, Bool, true, false, List, [], ◌∷◌, length, refl, sym, ap, ◌∙◌, arith, rules}
+use Rattle.std.specs.List.{AllWithin, HoldsAt}
+use Rattle.std.proofs.lemmas.Iterator.{IsFirst-from_position, YieldsList-from_slice}
+use borrow.Author.Tests.{tests}
 use Rattle.offers.specs.Fields.{first_false}
+use Rattle.offers.specs.Layouts.{numbered_field}
+use Rattle.offers.proofs.Decoding.{numbered_some}
 use Rattle.offers.proofs.words.first_outside.Goals as goal
 
--- the first false one of what is left is this one, or else the first of the rest
-turn : (n i : ℕ) (bs : List Bool) (b : Bool) → i < length bs → get_or bs i false ≡ b
-    → first_false n (drop i bs) ≡ cond b (first_false (n + 1) (drop (i + 1) bs)) n
-turn n i bs b h e =
-    at_drop_more (first_false n) bs i false h ∙ ap (λ t. cond t (first_false (n + 1) (drop (i + 1) bs)) n) e
+-- where all are true there is no first false one
+none_false : (n : ℕ) (bs : List Bool) → AllWithin (λ b. b ≡ true) bs 0 (length bs) → first_false n bs ≡ 0
+none_false n [] h = refl
+none_false n (b ∷ bs) h = rw (h 0 false (omega arith) (omega arith)) (none_false (n + 1) bs (λ k d low high. h (suc k) d (omega arith) (omega arith)))
 
-pub returns-then-not-ok : goal.returns-then-not-ok
-returns-then-not-ok c =
-    sym (turn c.loop-ok.field _ c.args.in_range.now false c.loop-ok-test.true c.if-not-ok.true)
-    ∙ c.loop-ok.invariant.1
+-- the first false one is counted from the number of the first
+counted : (n i : ℕ) (bs : List Bool) → i < length bs → HoldsAt (λ b. b ≡ false) bs i → AllWithin (λ b. b ≡ true) bs 0 i → first_false n bs ≡ n + i
+counted n i [] in_list here before = absurd (omega arith)
+counted n zero (b ∷ bs) in_list here before = rw (here false) (omega arith)
+counted n (suc i) (b ∷ bs) in_list here before =
+    rw (before 0 false (omega arith) (omega arith)) (
+    counted (n + 1) i bs (omega arith) (λ d. here d) (λ k d low high. before (suc k) d (omega arith) (omega arith))
+    ∙ omega arith)
 
-pub loop-ok-preserved : goal.loop-ok-preserved
-loop-ok-preserved c = (
-  omega arith,
-  sym (turn c.loop-ok.field _ c.args.in_range.now _ c.loop-ok-test.true c.if-not-ok.false)
-      ∙ c.loop-ok.invariant.1,
-)
+pub returns-in_err-place : goal.returns-in_err-place
+returns-in_err-place c =
+    let bs = c.args.in_range.now in
+    let first = IsFirst-from_position _ _ _ (λ b. b ≡ false) (λ b. b ≡ true) c.position.ensures.ran (YieldsList-from_slice bs cc) (λ x q k. search (rules, tests)) (λ x q k. search (rules, tests)) in
+    let all : AllWithin (λ b. b ≡ true) bs 0 (length bs) = rw c.in_err-place.was at first in
+    c.from_residual.ensures ∙ ap numbered_field (sym (none_false 2 bs all))
 
 pub returns : goal.returns
 returns c =
-    sym (at_drop_all (first_false c.loop-ok.field) c.args.in_range.now _ c.loop-ok-test.false)
-    ∙ c.loop-ok.invariant.1
+    let bs = c.args.in_range.now in
+    let first = IsFirst-from_position _ _ _ (λ b. b ≡ false) (λ b. b ≡ true) c.position.ensures.ran (YieldsList-from_slice bs cc) (λ x q k. search (rules, tests)) (λ x q k. search (rules, tests)) in
+    let here = rw c.in_ok-place.was at first in
+    let number : c.in_ok-place.place + 2 ≡ first_false 2 bs = omega (arith, counted 2 _ bs here.0 here.1 here.2) in
+    sym (ap numbered_field (sym number) ∙ numbered_some _ (omega arith))

@@ -16,17 +16,13 @@ pub take_field-requires : goal.take_field-requires
 take_field-requires c =
     (split_off c.loop-rest.rest.now c.loop-rest.last.byte (piece c.in_ok-field.field) c.in_ok-field.ensures).whole
 
-pub loop-rest-smaller : goal.loop-rest-smaller
-loop-rest-smaller c =
-    omega (arith, split-shorter c.loop-rest.rest.now c.loop-rest.last.byte (piece c.in_ok-field.field) c.in_ok-field.ensures)
-
 pub loop-rest-preserved : goal.loop-rest-preserved
 loop-rest-preserved c =
     let p = piece c.in_ok-field.field in
     let fewer = split-shorter c.loop-rest.rest.now c.loop-rest.last.byte p c.in_ok-field.ensures in
     let taken = sym c.take_field.ensures.answer ∙ c.in_ok-number.was in
     let next = catch_next (held c.loop-rest.copy) c.loop-rest.last c.loop-rest.rest.now p c.in_ok-number.number c.in_ok-field.ensures taken in
-    (rw (c.take_field.ensures.after, c.tag_of.ensures) (sym next ∙ c.loop-rest.invariant.0), omega arith)
+    (rw (c.take_field.ensures.after, c.tag.ensures) (sym next ∙ c.loop-rest.invariant.0), omega arith)
 
 pub returns-in_err-field : goal.returns-in_err-field
 returns-in_err-field c = record { answer = search rules; after = search rules; caught_up = caught_since _ _ _ _ (search rules) (search rules) }

@@ -1,39 +1,24 @@
 -- `take_field`: what a field makes of the entries of its kind, as what it makes of all offers.
-use Rattle.std.proofs.Common.{sym}
+use Rattle.std.proofs.Common.{sym, arith}
 use Rattle.offers.specs.declared.memory.Kind.TheVariants as kind
 use Rattle.offers.specs.Memory.{held}
 use Rattle.sheets.proofs.Pieces.{size_as, takes}
 use Rattle.sheets.proofs.reading.take_field.Goals as goal
 
 pub take_content-requires : goal.take_content-requires
-take_content-requires c = record {
-  whole = size_as kind.Package c.args.field.kind _ (sym c.in-Package.is) c.requires;
-  in_range = c.args.offers.now.packages_in_range;
-}
+take_content-requires c = (omega arith, size_as kind.Package c.args.field.kind _ (sym c.in-Package.is) c.requires)
 
 pub take_content-requires-in-Band : goal.take_content-requires-in-Band
-take_content-requires-in-Band c = record {
-  whole = size_as kind.Band c.args.field.kind _ (sym c.in-Band.is) c.requires;
-  in_range = c.args.offers.now.bands_in_range;
-}
+take_content-requires-in-Band c = (omega arith, size_as kind.Band c.args.field.kind _ (sym c.in-Band.is) c.requires)
 
 pub take_content-requires-in-Pair : goal.take_content-requires-in-Pair
-take_content-requires-in-Pair c = record {
-  whole = size_as kind.Pair c.args.field.kind _ (sym c.in-Pair.is) c.requires;
-  in_range = c.args.offers.now.pairs_in_range;
-}
+take_content-requires-in-Pair c = (omega arith, size_as kind.Pair c.args.field.kind _ (sym c.in-Pair.is) c.requires)
 
 pub take_content-requires-in-Exclusion : goal.take_content-requires-in-Exclusion
-take_content-requires-in-Exclusion c = record {
-  whole = size_as kind.Exclusion c.args.field.kind _ (sym c.in-Exclusion.is) c.requires;
-  in_range = c.args.offers.now.exclusions_in_range;
-}
+take_content-requires-in-Exclusion c = (omega arith, size_as kind.Exclusion c.args.field.kind _ (sym c.in-Exclusion.is) c.requires)
 
 pub take_content-requires-in-Limit : goal.take_content-requires-in-Limit
-take_content-requires-in-Limit c = record {
-  whole = size_as kind.Limit c.args.field.kind _ (sym c.in-Limit.is) c.requires;
-  in_range = c.args.offers.now.limits_in_range;
-}
+take_content-requires-in-Limit c = (omega arith, size_as kind.Limit c.args.field.kind _ (sym c.in-Limit.is) c.requires)
 
 pub returns-in-Package : goal.returns-in-Package
 returns-in-Package c =

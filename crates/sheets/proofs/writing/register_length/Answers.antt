@@ -1,25 +1,17 @@
--- `register_length`: each turn counts the field of one entry.
-use Rattle.std.proofs.Common.{◌≡◌, ◌+◌, length, ap, arith}
-use Rattle.std.proofs.lemmas.List.{length-append, take_all}
-use Rattle.sheets.specs.Writing.{entry_bytes}
-use Rattle.sheets.proofs.Puts.{length-entry, register_more}
+-- `register_length`: every entry that is not vacant has one field.
+use Rattle.std.proofs.Common.{◌≡◌, not, length, rules, arith}
+use Rattle.std.specs.List.{filter}
+use Rattle.std.proofs.lemmas.Iterator.{YieldsList-from_slice}
+use Rattle.std.proofs.lemmas.Iterator.Consumers.{YieldsList-from_filter, count_from_yields_List}
+use borrow.Author.Tests.{tests}
+use Rattle.offers.specs.Registers.{is_vacant}
+use Rattle.sheets.proofs.Puts.{length_register}
 use Rattle.sheets.proofs.writing.register_length.Goals as goal
-use Rattle.sheets.proofs.writing.register_length.Goals.{in-Vacant, in_default}
 
-pub loop-entry-preserved : goal.loop-entry-preserved
-loop-entry-preserved g c =
-    let k = g.R.Record.layout in
-    let more = simp length-append at (ap length (register_more k c.args.entries.now c.loop-entry.entry-index c.entry-item.result c.loop-entry-test.true c.entry-item.is)) in
-    elim c.match-entry.branch [
-      | in-Vacant w ↦
-          let none : length (entry_bytes k (c.loop-entry.entry-index + 1) c.entry-item.result) ≡ 0 = rw w.in-Vacant.is in
-          (omega (arith, more, none, w.bytes-is), omega (arith, w.bytes-is))
-      | in_default w ↦
-          let one = length-entry k g.met.R.Record.lawful (c.loop-entry.entry-index + 1) c.entry-item.result w.in_default.not-Vacant in
-          (omega (arith, more, one, w.bytes-is, w.content_bytes.ensures), omega (arith, w.bytes-is, w.content_bytes.ensures))
-    ]
-
-pub returns : goal.returns
-returns g c =
-    let all = take_all c.loop-entry.entry-index c.args.entries.now c.loop-entry-test.false in
-    record { value = rw all at c.loop-entry.invariant.0; bound = omega arith }
+pub returns-clause-value : goal.returns-clause-value
+returns-clause-value g c =
+    let es = c.args.entries.now in
+    let counted : c.count.result ≡ length (filter (λ e. not (is_vacant e)) es) =
+    count_from_yields_List c.filter-held.result c.count.result c.count.ensures.ran
+    (YieldsList-from_filter _ (λ e. not (is_vacant e)) (YieldsList-from_slice es cc) c.filter-held.ensures.closure (λ x b q k. search (rules, tests))) in
+    rw (counted, c.content_bytes.ensures) (omega (arith, length_register g.R.Record.layout g.met.R.Record.lawful 1 es))

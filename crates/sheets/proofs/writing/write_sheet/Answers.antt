@@ -1,10 +1,10 @@
 -- `write_sheet`: the registers, one after the other.
-use Rattle.std.proofs.Common.{arith, rules}
+use Rattle.std.proofs.Common.{rules}
 use Rattle.offers.specs.declared.memory.Kind.TheVariants as kind
 use Rattle.offers.specs.Memory.{held}
 use Rattle.sheets.specs.Writing.{kind_bytes}
 use Rattle.sheets.proofs.Faithfulness.{faithful}
-use Rattle.sheets.proofs.Puts.{Put, put_both, length_sheet, writes}
+use Rattle.sheets.proofs.Puts.{Put, put_both, writes}
 use Rattle.sheets.proofs.writing.write_sheet.Goals as goal
 
 pub returns-then-buffer-length : goal.returns-then-buffer-length
@@ -13,26 +13,6 @@ returns-then-buffer-length c = record {
   after = search rules;
   faithful = faithful (held c.args.offers.now) c.sheet_length-length.ensures.sound;
 }
-
-pub put_register-at-requires : goal.put_register-at-requires
-put_register-at-requires c =
-    record { few = search rules; short = search rules; room = omega (arith, length_sheet (held c.args.offers.now)) }
-
-pub put_register-at-requires-2 : goal.put_register-at-requires-2
-put_register-at-requires-2 c =
-    record { few = search rules; short = search rules; room = omega (arith, length_sheet (held c.args.offers.now)) }
-
-pub put_register-at-requires-3 : goal.put_register-at-requires-3
-put_register-at-requires-3 c =
-    record { few = search rules; short = search rules; room = omega (arith, length_sheet (held c.args.offers.now)) }
-
-pub put_register-at-requires-4 : goal.put_register-at-requires-4
-put_register-at-requires-4 c =
-    record { few = search rules; short = search rules; room = omega (arith, length_sheet (held c.args.offers.now)) }
-
-pub put_register-requires : goal.put_register-requires
-put_register-requires c =
-    record { few = search rules; short = search rules; room = omega (arith, length_sheet (held c.args.offers.now)) }
 
 pub returns : goal.returns
 returns c =

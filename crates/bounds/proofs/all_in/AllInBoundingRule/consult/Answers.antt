@@ -25,6 +25,6 @@ returns c =
     ∙ ap (λ choice. paid (vec_items d.bands) (filled_sales (view d) choice)) c.last.ensures in
     let costs = c.least_cost.ensures in
     record {
-      answer = λ block. ap Some (omega (arith, ints, income, sold.income, costs.value block, costs.low, costs.high));
+      answer = λ block. ap Some (omega (arith, ints, income, sold.income, costs.value, costs.low, costs.high));
       same = refl;
     }

@@ -14,10 +14,10 @@ pub invariant_of-self-clause-packages_fit : goal.invariant_of-self-clause-packag
 invariant_of-self-clause-packages_fit g c = c.copy_packages.ensures.fit
 
 pub invariant_of-self-clause-bands_rise : goal.invariant_of-self-clause-bands_rise
-invariant_of-self-clause-bands_rise g c = rw c.copy_bands.ensures.items (bands_rise c.args.offers.now.bands)
+invariant_of-self-clause-bands_rise g c = rw c.copy_bands.ensures.items (bands_rise c.args.offers.now.bands.entries)
 
 pub invariant_of-self-clause-bands_ahead : goal.invariant_of-self-clause-bands_ahead
-invariant_of-self-clause-bands_ahead g c = subst (λ bs. aheads bs ≡ true_aheads bs) (sym c.copy_bands.ensures.items) (bands-ahead c.args.offers.now.bands)
+invariant_of-self-clause-bands_ahead g c = subst (λ bs. aheads bs ≡ true_aheads bs) (sym c.copy_bands.ensures.items) (bands-ahead c.args.offers.now.bands.entries)
 
 pub returns : goal.returns
 returns g c =

@@ -1,6 +1,8 @@
--- What the loop of `of` keeps true: the sums are those of what is taken so far, and the digits left take the rest.
-use Rattle.clearing.proofs.Takings.{Partly}
+-- What the loop of `of` keeps true: the sums are those of the first so many that are taken.
+use Rattle.std.proofs.Common.{◌≡◌, length, take, vec_items}
+use Rattle.clearing.specs.Choices.{taken}
+use Rattle.clearing.specs.Tallies.{tally_of}
 use Rattle.clearing.proofs.tallies.Tally.of.Given as goal
 
 abbrev pub invariant-loop-package : goal.invariant-loop-package
-invariant-loop-package l = Partly l.package-items l.choice l.package-index l.sums l.digits
+invariant-loop-package l = l.sums ≡ tally_of (take (length l.yielded) (taken (vec_items l.docket.packages) l.choice))

@@ -5,17 +5,17 @@ use Rattle.offers.proofs.kinds.PackageRecord.write.Goals as goal
 
 pub returns : goal.returns
 returns c =
-    filled 31 c.put_u8-7.new.out _ (omega arith) (rw (
-      c.put_u8-7.ensures.front,
-      c.put_u8-6.ensures.front,
-      c.put_u8-5.ensures.front,
-      c.put_u8-4.ensures.front,
-      c.put_u8-3.ensures.front,
-      c.put_u8-2.ensures.front,
-      c.put_u8.ensures.front,
-      c.put_u64.ensures.front,
-      c.put_u32-4.ensures.front,
-      c.put_u32-3.ensures.front,
-      c.put_u32-2.ensures.front,
-      c.put_u32.ensures.front,
+    filled 31 c.put-12.new.out _ (omega arith) (rw (
+      c.put-12.ensures.front,
+      c.put-11.ensures.front,
+      c.put-10.ensures.front,
+      c.put-9.ensures.front,
+      c.put-8.ensures.front,
+      c.put-7.ensures.front,
+      c.put-6.ensures.front,
+      c.put-5.ensures.front,
+      c.put-4.ensures.front,
+      c.put-3.ensures.front,
+      c.put-2.ensures.front,
+      c.put.ensures.front,
     ))

@@ -15,17 +15,6 @@ module _ (below product : ℤ) (rate : ℕ)
   product_fits : SFits w64 (to_z w64 (of_z w64 below) *ℤ to_z w64 (of_z w64 product))
   product_fits = rw product_read (omega (arith, ints, product_span below rate 20000000000 220000000 span most))
 
-pub overflow_mul-below : goal.overflow_mul-below
-overflow_mul-below g c =
-    let rates = c.args.self.now.rates in
-    let rate = rates.preference * rates.expectation in
-    let most : rate ≤ 220000000 = omega (arith, ints) in
-    let priced = g.P.PriceRule.meaning c.args.self.now.below c.args.package.now in
-    let came : Ok c.in_ok-below.below ≡ priced = search rules in
-    let bounded = g.met.P.PriceRule.bounded c.args.self.now.below c.args.package.now in
-    let span = price_span priced came bounded in
-    product_fits c.in_ok-below.below c.product.result rate span c.product.ensures.value most
-
 pub returns-then-package-eq1 : goal.returns-then-package-eq1
 returns-then-package-eq1 g c =
     let rates = c.args.self.now.rates in

@@ -1,0 +1,39 @@
+-- Which case a byte stands for: a kind by its tag, a limit's sort, a package's date. Assumes nothing.
+use Rattle.std.specs.Prelude.{ℕ, cond, Some, None, Ok, Err, Option, Result, ◌==◌}
+use Rattle.offers.specs.declared.marks.Unknown.{Unknown}
+use Rattle.offers.specs.declared.marks.Sort.{Sort}
+use Rattle.offers.specs.declared.marks.Sort.TheVariants.{Interconnection, Export, Percentage}
+use Rattle.offers.specs.declared.marks.Date.{Date}
+use Rattle.offers.specs.declared.marks.Date.TheVariants.{Standard, Before, After}
+use Rattle.offers.specs.declared.memory.Kind.{Kind}
+use Rattle.offers.specs.declared.memory.Kind.TheVariants as kind
+use Rattle.offers.specs.Memory.{layout_of}
+
+-- the kind that a tag marks
+abbrev pub kind_of_tag : ℕ → Option Kind
+kind_of_tag t =
+    cond (t == (layout_of kind.Package).tag) (Some kind.Package)
+    (cond (t == (layout_of kind.Band).tag) (Some kind.Band)
+    (cond (t == (layout_of kind.Pair).tag) (Some kind.Pair)
+    (cond (t == (layout_of kind.Exclusion).tag) (Some kind.Exclusion)
+    (cond (t == (layout_of kind.Limit).tag) (Some kind.Limit) None))))
+
+-- the byte of a limit's sort
+abbrev pub sort_byte : Sort → ℕ
+sort_byte Interconnection = 1
+sort_byte Export = 2
+sort_byte Percentage = 3
+
+-- the byte of a package's date
+abbrev pub date_byte : Date → ℕ
+date_byte Standard = 0
+date_byte Before = 1
+date_byte After = 2
+
+abbrev pub known : {C : Type 0} → ℕ → Option C → Result C Unknown
+known byte (Some c) = Ok c
+known byte None = Err (record { 0 = byte })
+
+-- the case, or the byte that stands for none
+abbrev pub decoded : {C : Type 0} → (ℕ → Option C) → ℕ → Result C Unknown
+decoded case byte = known byte (case byte)

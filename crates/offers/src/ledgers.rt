@@ -1,0 +1,60 @@
+// A ledger: the entries of one kind, one for each offer number, every record of them in range.
+ghost use Rattle.std.specs.Prelude.{◌≡◌, length, replicate, ⊤};
+ghost use Rattle.offers.specs.Registers.{filing, withdrawing, Moved, InRange};
+ghost use Rattle.offers.specs.declared.registers.Entry.TheVariants.{Vacant};
+
+use crate::records::Record;
+use crate::refusals::Refusal;
+use crate::registers::{Entry, file_in, withdraw_in};
+use std::alloc::AllocError;
+
+// Number n stands at place n - 1.
+pub struct Ledger<R: Record, const N: usize> {
+    pub entries: [Entry<R>; N],
+    ghost whole: { length entries ≡ N },
+    ghost numbered: { length entries ≡ R.Record.layout.count },
+    ghost in_range: { InRange R.Record.layout entries },
+}
+
+impl<R: Record, const N: usize> Copy for Ledger<R, N> {}
+
+// By hand, since no derive says of a struct with invariants what its copy is.
+impl<R: Record, const N: usize> Clone for Ledger<R, N> {
+    ghost is_clone = { λ ledger copy. copy ≡ ledger };
+
+    ghost is_infallible = { λ _. ⊤ };
+
+    fn clone(&self) -> Result<Ledger<R, N>, AllocError> {
+        Ok(*self)
+    }
+}
+
+impl<R: Record, const N: usize> Ledger<R, N> {
+    // Every number is vacant.
+    pub(crate) fn vacant() -> Ledger<R, N>
+        requires { N ≡ R.Record.layout.count }
+        ensures { result.entries ≡ replicate N Vacant }
+    {
+        Ledger {
+            entries: [Entry::Vacant; N],
+        }
+    }
+
+    // Makes a vacant number open. Not through a `Register`: that what a generic ledger lends to one ends as it says did not prove.
+    pub fn file(&mut self, number: u8, new: R) -> Result<(), Refusal>
+        ensures answer { result ≡ (filing R.Record.layout self.old.entries number new).answer }
+        ensures after { self.new.entries ≡ (filing R.Record.layout self.old.entries number new).left }
+        ensures moved { Moved self.old.entries number result self.new.entries }
+    {
+        file_in(&mut self.entries, number, new)
+    }
+
+    // Makes an open number withdrawn.
+    pub fn withdraw(&mut self, number: u8) -> Result<(), Refusal>
+        ensures answer { result ≡ (withdrawing R.Record.layout self.old.entries number).answer }
+        ensures after { self.new.entries ≡ (withdrawing R.Record.layout self.old.entries number).left }
+        ensures moved { Moved self.old.entries number result self.new.entries }
+    {
+        withdraw_in(&mut self.entries, number)
+    }
+}
