@@ -33,7 +33,7 @@ fn least_cost(docket: &Docket, block: Block) -> i64
     ensures low { negsuc 1599999999999 ≤ℤ result }
     ensures high { result ≤ℤ pos 800000000000 }
 {
-    // loops: the library shows what `sum` requires of unsigned numbers only
+    // loops: the library's lemmas on what a `sum` stays within are of unsigned numbers
     let mut cost = 0i64;
     for package in docket.taken(block.first) {
         cost += package.price;

@@ -20,7 +20,7 @@ impl BoundingRule for OneByOne {
 
     fn consult(&mut self, docket: &Docket, block: Block) -> Option<i64> {
         let fixed = unlimited_surplus(docket, block.first);
-        // a loop: the library shows what `sum` requires of unsigned numbers only
+        // a loop: the library's lemmas on what a `sum` stays within are of unsigned numbers
         let mut cap = fixed;
         for digit in 0..block.free {
             let alone = unlimited_surplus(docket, block.first + (1u64 << digit));

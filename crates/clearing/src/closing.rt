@@ -133,8 +133,7 @@ fn copy_bands(ledger: &Ledger<Band, 64>, into: &mut Vec<OpenBand>)
     }
 }
 
-// The quantity of the open bands that are served before the band at a place of the register. A loop, since a chain would spread its
-// two tests over three closures.
+// The quantity of the open bands that are served before the band at a place of the register.
 fn ahead_of(ledger: &Ledger<Band, 64>, at: usize, band: &Band) -> u64
     ensures value { result ≡ ahead_of (open_from 1 ledger.now.entries) (record { number = at + 1; of = band.now }) }
     ensures bound { result ≤ 6400000000 }

@@ -109,7 +109,7 @@ fn dates_kept(docket: &Docket, taken: &Tally, sales: &Sales) -> bool
 }
 
 // The surplus in pesos of a choice with filled sales, if it is lawful. One docket is asked about many choices, so the two stay two
-// parameters, here and above.
+// parameters, here and below.
 pub fn worth(docket: &Docket, choice: u64) -> Option<i64>
     ensures value { result ≡ worth_of (view docket.now) choice }
     ensures worth { Worth (view docket.now) choice result }

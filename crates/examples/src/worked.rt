@@ -3,7 +3,7 @@ use offers::memory::{Offer, Offers};
 use offers::records::{Band, Exclusion, Limit, Package, Pair};
 use offers::refusals::{Code, Refusal};
 
-// A refusal of any call but a closing, which alone tells of a price rule's depth.
+// A refusal of any call but a closing, which alone tells of a price rule's depth. `sheets` has the same, but for itself only.
 pub fn refusal(code: Code, tag: u8, number: u8, field: u8, byte: usize) -> Refusal {
     Refusal {
         tag,

@@ -18,7 +18,7 @@ pub struct Ledger<R: Record, const N: usize> {
 
 impl<R: Record, const N: usize> Copy for Ledger<R, N> {}
 
-// By hand, since no derive says of a struct with invariants what its copy is.
+// By hand, since `Clone` cannot be derived for a generic struct with invariants.
 impl<R: Record, const N: usize> Clone for Ledger<R, N> {
     ghost is_clone = { λ ledger copy. copy ≡ ledger };
 

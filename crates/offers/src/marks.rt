@@ -66,7 +66,7 @@ impl Limit {
 }
 
 impl Kind {
-    // What marks the kind on a sheet.
+    // What marks the kind on a sheet. A method, since its name says which conversion it is.
     pub fn tag(self) -> u8
         ensures { result ≡ (layout_of self).tag }
     {

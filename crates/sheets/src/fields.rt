@@ -57,7 +57,7 @@ impl TryFrom<u8> for Status {
 }
 
 impl Status {
-    // Its byte on a sheet.
+    // Its byte on a sheet. A method, since its name says which conversion it is.
     pub(crate) fn byte(self) -> u8
         ensures { result ≡ status_byte self }
     {

@@ -42,7 +42,7 @@ impl Offers {
         ensures after { held self.new ≡ (withdraw_offer (held self.old) kind number).left }
         ensures kept { Kept (held self.old) result (held self.new) }
     {
-        // a `dyn` ledger in their place would need this same match to be picked
+        // a `dyn` ledger in place of the arms would need this same match to be picked
         match kind {
             Kind::Package => self.packages.withdraw(number),
             Kind::Band => self.bands.withdraw(number),
