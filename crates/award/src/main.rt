@@ -1,7 +1,7 @@
 // Reads a sheet from standard input, clears its round, and prints the award.
 #![tactic(auto)]
 
-ghost use Rattle.std.specs.Prelude.{◌≡◌, ◌≤◌, IfOk, IfSome, take, vec_len};
+ghost use Rattle.std.specs.Prelude.{◌≡◌, ◌+◌, ◌%◌, ◌≤◌, Decides, IfOk, IfSome, take, vec_len};
 
 use anyhow::anyhow;
 use clearing::dockets::Docket;
@@ -23,10 +23,26 @@ struct Meter<'a> {
 
 const NOTES: u8 = 16;
 
+impl<'a> Meter<'a> {
+    fn new(rt: &'a HostRuntime) -> Meter<'a>
+        ensures { result.notes ≡ 0 }
+    {
+        Meter { rt, notes: 0 }
+    }
+
+    // Counts a note, and answers whether it is one to be said.
+    fn is_due(&mut self) -> bool
+        ensures counted { self.new.notes ≡ (self.old.notes + 1) % 16 }
+        ensures due { Decides result (self.new.notes ≡ 0) }
+    {
+        self.notes = self.notes.wrapping_add(1) % NOTES;
+        self.notes == 0
+    }
+}
+
 impl Progress for Meter<'_> {
     fn note(&mut self, settled: u64, choices: u64, surplus: i64) {
-        self.notes = self.notes.wrapping_add(1) % NOTES;
-        if self.notes == 0 {
+        if self.is_due() {
             let _ = eprintln!(self.rt; "settled {settled} of {choices}, surplus {surplus}");
         }
     }
@@ -48,7 +64,7 @@ fn main(rt: HostRuntime) -> anyhow::Result<()> {
     let sheet = read_all(rt.alloc(), rt.stdin())?;
     // the library's own text for this is another
     let mut docket = Docket::new(rt.alloc()).map_err(|_| anyhow!("out of memory"))?;
-    let mut meter = Meter { rt: &rt, notes: 0 };
+    let mut meter = Meter::new(&rt);
     match award_sheet(&mut docket, &sheet, &mut meter) {
         Ok(award) => {
             let report = Report::of(rt.alloc(), &docket, award).map_err(|_| anyhow!(

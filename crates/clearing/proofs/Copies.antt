@@ -1,13 +1,12 @@
 -- How a row of memory fills with the open records of a register: what stands in it after so many entries.
-use Rattle.std.proofs.Common.{◌≡◌, ℕ, ◌+◌, ◌<◌, ◌≤◌, Bool, true, List, [], ◌∷◌, ◌++◌, map, length, get_or, vec_items, vec_len, vec_capacity, Vec, sym, refl, ap, ◌∙◌, subst, arith}
+use Rattle.std.proofs.Common.{◌≡◌, ℕ, ◌+◌, ◌<◌, ◌≤◌, Bool, true, List, [], ◌∷◌, ◌++◌, map, length, get_or, vec_items, vec_len, vec_capacity, Vec, sym, ap, ◌∙◌, subst, arith}
 use Rattle.std.proofs.lemmas.List.{map_push}
 use Rattle.offers.specs.declared.registers.Entry.{Entry}
 use Rattle.offers.specs.declared.registers.Entry.TheVariants.{Vacant, Open}
 use Rattle.clearing.specs.Bands.{Numbered}
-use Rattle.clearing.specs.Closing.{open_from}
 use Rattle.clearing.specs.Ranges.{each}
 use Rattle.clearing.proofs.Fits.{each_push}
-use Rattle.clearing.proofs.Openings.{opened, all_opened, one_opened, none_opened}
+use Rattle.clearing.proofs.Openings.{opened, one_opened, none_opened}
 
 -- At most so many stand in it, its capacity is as it was, each passes a test, and they are what is made of the open records.
 pub record Copied {R X Z : Type 0} (test : X → Bool) (f : Numbered R → X) (es : List (Entry R)) (capacity i : ℕ) (v : Vec X Z) : Type 0 where
@@ -16,32 +15,24 @@ pub record Copied {R X Z : Type 0} (test : X → Bool) (f : Numbered R → X) (e
   pub fit : each test (vec_items v) ≡ true
   pub holds : vec_items v ≡ map f (opened es i)
 
-module _ {R X Z : Type 0} (test : X → Bool) (f : Numbered R → X) (es : List (Entry R)) (capacity : ℕ) (v : Vec X Z) where
-  -- none stands in it
-  pub none_copied : vec_items v ≡ [] → vec_len v ≡ 0 → vec_capacity v ≡ capacity → Copied test f es capacity 0 v
-  none_copied items len cap = record { few = omega arith; same = cap; fit = rw items refl; holds = items }
+module _ {R X Z : Type 0} (test : X → Bool) (f : Numbered R → X) (es : List (Entry R)) (capacity : ℕ) (v : Vec X Z)
+    (i : ℕ) (inside : i < length es) (ok : Copied test f es capacity i v) (w : Vec X Z) where
+  -- an entry that is not open puts none in
+  pub none_more : ((r : R) → get_or es i Vacant ≡ Open r → ⊥) → w ≡ v → Copied test f es capacity (i + 1) w
+  none_more shut e =
+      subst (Copied test f es capacity (i + 1)) (sym e)
+      (record { few = omega arith; same = ok.same; fit = ok.fit; holds = ok.holds ∙ ap (map f) (sym (none_opened es i inside shut)) })
 
-  module _ (i : ℕ) (inside : i < length es) (ok : Copied test f es capacity i v) (w : Vec X Z) where
-    -- an entry that is not open puts none in
-    pub none_more : ((r : R) → get_or es i Vacant ≡ Open r → ⊥) → w ≡ v → Copied test f es capacity (i + 1) w
-    none_more shut e =
-        subst (Copied test f es capacity (i + 1)) (sym e)
-        (record { few = omega arith; same = ok.same; fit = ok.fit; holds = ok.holds ∙ ap (map f) (sym (none_opened es i inside shut)) })
-
-    -- an open entry puts one in that passes
-    pub one_more : (r : R) (x : X) → get_or es i Vacant ≡ Open r → x ≡ f (record { number = i + 1; of = r }) → test x ≡ true
-        → vec_items w ≡ vec_items v ++ x ∷ [] → vec_len w ≡ vec_len v + 1 → vec_capacity w ≡ vec_capacity v → Copied test f es capacity (i + 1) w
-    one_more r x is made pass items len cap = record {
-      few = omega arith;
-      same = cap ∙ ok.same;
-      fit = rw items (each_push test (vec_items v) x ok.fit pass);
-      holds =
-          items
-          ∙ ap (λ xs. xs ++ x ∷ []) ok.holds
-          ∙ ap (λ y. map f (opened es i) ++ y ∷ []) made
-          ∙ sym (ap (map f) (one_opened es i inside r is) ∙ map_push f (opened es i) (record { number = i + 1; of = r }));
-    }
-
-  -- past the last entry all that is open stands in it
-  pub all_copied : (i : ℕ) → length es ≤ i → Copied test f es capacity i v → vec_items v ≡ map f (open_from 1 es)
-  all_copied i past ok = ok.holds ∙ ap (map f) (all_opened es i past)
+  -- an open entry puts one in that passes
+  pub one_more : (r : R) (x : X) → get_or es i Vacant ≡ Open r → x ≡ f (record { number = i + 1; of = r }) → test x ≡ true
+      → vec_items w ≡ vec_items v ++ x ∷ [] → vec_len w ≡ vec_len v + 1 → vec_capacity w ≡ vec_capacity v → Copied test f es capacity (i + 1) w
+  one_more r x is made pass items len cap = record {
+    few = omega arith;
+    same = cap ∙ ok.same;
+    fit = rw items (each_push test (vec_items v) x ok.fit pass);
+    holds =
+        items
+        ∙ ap (λ xs. xs ++ x ∷ []) ok.holds
+        ∙ ap (λ y. map f (opened es i) ++ y ∷ []) made
+        ∙ sym (ap (map f) (one_opened es i inside r is) ∙ map_push f (opened es i) (record { number = i + 1; of = r }));
+  }

@@ -1,6 +1,6 @@
 -- The open records of a register: one entry after another, with rising numbers, and the bands ahead of each.
-use Rattle.std.proofs.Common.{◌≡◌, ℕ, ◌+◌, ◌<◌, ◌≤◌, true, ◌&&◌, ◌||◌, eqb, ltb, List, [], ◌∷◌, ◌++◌, map, length, get_or, take, sym, refl, ap, ◌∙◌, add-zero, add_comm, arith}
-use Rattle.std.proofs.lemmas.List.{take_more, take_all, length-take-le, append-nil, map-id}
+use Rattle.std.proofs.Common.{◌≡◌, ℕ, ◌+◌, ◌<◌, true, ◌&&◌, ◌||◌, eqb, ltb, List, [], ◌∷◌, ◌++◌, map, length, get_or, take, sym, refl, ap, ◌∙◌, add-zero, add_comm, arith}
+use Rattle.std.proofs.lemmas.List.{take_more, length-take-le, append-nil, map-id}
 use Rattle.std.proofs.lemmas.Bool.{and_from, lt-ltb}
 use Rattle.std.proofs.lemmas.Bool.Decides.{nat_tests}
 use Rattle.offers.specs.declared.records.Band.{Band}
@@ -40,10 +40,6 @@ not_open n (Withdrawn r) shut = refl
 -- the open records among the first so many entries
 abbrev pub opened : {R : Type 0} → List (Entry R) → ℕ → List (Numbered R)
 opened es i = open_from 1 (take i es)
-
--- past the last entry that is all of them
-pub all_opened : {R : Type 0} (es : List (Entry R)) (i : ℕ) → length es ≤ i → opened es i ≡ open_from 1 es
-all_opened es i past = ap (open_from 1) (take_all i es past)
 
 module _ {R : Type 0} (es : List (Entry R)) (i : ℕ) (inside : i < length es) where
   -- one entry more

@@ -1,5 +1,5 @@
 -- The prices of a register's open packages, one entry after another.
-use Rattle.std.proofs.Common.{◌≡◌, ℕ, zero, suc, ◌+◌, ◌-◌, ◌<◌, ◌≤◌, true, ◌≢◌, List, [], ◌∷◌, map, length, get_or, set, ℤ, pos, Ok, Err, sym, refl, ap, ◌∙◌, add-zero, arith, length-set, get_or-set_other, get_or-set_same, below_more}
+use Rattle.std.proofs.Common.{◌≡◌, ℕ, zero, suc, ◌+◌, ◌-◌, ◌<◌, true, ◌≢◌, List, [], ◌∷◌, map, length, get_or, set, ℤ, pos, Ok, Err, sym, refl, ap, ◌∙◌, add-zero, arith, length-set, get_or-set_other, get_or-set_same, below_more}
 use Rattle.offers.specs.declared.records.Package.{Package}
 use Rattle.offers.specs.declared.registers.Entry.{Entry}
 use Rattle.offers.specs.declared.registers.Entry.TheVariants.{Vacant, Open, Withdrawn}
@@ -21,16 +21,6 @@ PricedTo meaning es i prices = (k : ℕ) → k < i → (p : Package) → get_or 
 -- the same of all entries
 abbrev pub AllPriced : Meaning → List (Entry Package) → List ℤ → Type 0
 AllPriced meaning es prices = (k : ℕ) (p : Package) → get_or es k Vacant ≡ Open p → meaning p ≡ Ok (get_or prices k (pos 0))
-
--- past the last entry none is open
-past_none : (es : List (Entry Package)) (k : ℕ) (p : Package) → get_or es k Vacant ≡ Open p → k < length es
-past_none [] k p is = absurd (grind arith)
-past_none (e ∷ es) zero p is = omega arith
-past_none (e ∷ es) (suc k) p is = omega (arith, past_none es k p is)
-
--- so prices of all entries so far are those of all
-pub all_priced : (meaning : Meaning) (es : List (Entry Package)) (i : ℕ) (prices : List ℤ) → length es ≤ i → PricedTo meaning es i prices → AllPriced meaning es prices
-all_priced meaning es i prices past so k p is = so k (omega (arith, past_none es k p is)) p is
 
 module _ (meaning : Meaning) where
   -- each open package with its price, where each has one

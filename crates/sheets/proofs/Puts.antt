@@ -69,12 +69,6 @@ module _ {R : Type 0} (k : Layout R) (law : Lawful k) where
   pub length-field : (n status : ℕ) (r : R) → length (field_bytes k n status r) ≡ content_size k + 3
   length-field n status r = omega (arith, law.sized r)
 
-  -- the same of the field of an entry that is not vacant
-  pub length-entry : (n : ℕ) (e : Entry R) → (e ≡ Vacant → ⊥) → length (entry_bytes k n e) ≡ content_size k + 3
-  length-entry n Vacant ne = absurd (ne refl)
-  length-entry n (Open r) ne = length-field n 1 r
-  length-entry n (Withdrawn r) ne = length-field n 2 r
-
   -- as many fields as entries that are not vacant make up a register
   pub length_register : (n : ℕ) (es : List (Entry R)) → length (register_bytes k n es) ≡ length (filter (λ e. not (is_vacant e)) es) * (content_size k + 3)
   length_register n [] = omega arith

@@ -1,21 +1,13 @@
 -- `ahead_of`: each open band that comes ahead adds its quantity, which is in range.
-use Rattle.std.proofs.Common.{◌+◌, ◌<◌, length, sym, refl, ap, ◌∙◌, arith}
+use Rattle.std.proofs.Common.{◌+◌, ◌<◌, length, sym, ◌∙◌, arith}
 use Rattle.std.proofs.lemmas.Bool.{cond-true, cond-false}
 use Rattle.offers.specs.declared.records.Band.{Band}
 use Rattle.offers.specs.Tables.{band_layout}
-use Rattle.clearing.specs.Bands.{Numbered, ahead_of}
+use Rattle.clearing.specs.Bands.{Numbered}
 use Rattle.clearing.proofs.Fits.{open_fits, band_ranges}
-use Rattle.clearing.proofs.Openings.{all_opened, ahead_open, ahead_shut, ahead_by_place}
+use Rattle.clearing.proofs.Openings.{ahead_open, ahead_shut, ahead_by_place}
 use Rattle.clearing.proofs.closing.ahead_of.Goals as goal
 use Rattle.clearing.proofs.closing.ahead_of.Goals.{in-Open+then-comes_ahead, in-Open+else-comes_ahead, in_default}
-
-pub loop-i-init : goal.loop-i-init
-loop-i-init c = (refl, omega arith)
-
-pub overflow_add-ahead : goal.overflow_add-ahead
-overflow_add-ahead c =
-    let ranges = band_ranges c.in-Open.other (open_fits band_layout c.args.ledger.now.entries c.loop-i.i _ c.args.ledger.now.in_range c.in-Open.is) in
-    omega arith
 
 pub loop-i-preserved : goal.loop-i-preserved
 loop-i-preserved c =
@@ -41,11 +33,3 @@ loop-i-preserved c =
           let same = ahead_shut es i band inside w.in_default.not-Open in
           (w.ahead-is ∙ c.loop-i.invariant.0 ∙ sym same, omega (arith, w.ahead-is))
     ]
-
-pub returns : goal.returns
-returns c =
-    let all = all_opened c.args.ledger.now.entries c.loop-i.i (omega arith) in
-    record {
-      value = c.loop-i.invariant.0 ∙ ap (λ bs. ahead_of bs (record { number = c.args.at + 1; of = c.args.band.now })) all;
-      bound = omega arith;
-    }

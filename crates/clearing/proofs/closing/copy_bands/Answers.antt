@@ -1,17 +1,11 @@
 -- `copy_bands`: an open band is in range, and so are its number and what stands ahead of it.
-use Rattle.std.proofs.Common.{◌+◌, refl, ap, ◌∙◌, arith}
+use Rattle.std.proofs.Common.{◌+◌, ap, arith}
 use Rattle.std.proofs.lemmas.Bool.{and_from, le-leb}
 use Rattle.offers.specs.Tables.{band_layout}
 use Rattle.clearing.proofs.Fits.{open_fits, within-from}
-use Rattle.clearing.proofs.Copies.{none_copied, none_more, one_more, all_copied}
+use Rattle.clearing.proofs.Copies.{none_more, one_more}
 use Rattle.clearing.proofs.closing.copy_bands.Goals as goal
 use Rattle.clearing.proofs.closing.copy_bands.Goals.{in-Open, in_default}
-
-pub loop-i-init : goal.loop-i-init
-loop-i-init c = none_copied _ _ _ _ c.clear.new.self c.clear.ensures.items c.clear.ensures.len refl
-
-pub push_reserved-requires : goal.push_reserved-requires
-push_reserved-requires c = omega (arith, c.loop-i.invariant.few, c.loop-i.invariant.same)
 
 pub loop-i-preserved : goal.loop-i-preserved
 loop-i-preserved c =
@@ -28,12 +22,3 @@ loop-i-preserved c =
           w.push_reserved.ensures.items w.push_reserved.ensures.len w.push_reserved.ensures.capacity)
       | in_default w ↦ none_more _ _ es _ c.loop-i.into i (omega arith) c.loop-i.invariant _ w.in_default.not-Open w.into-is
     ]
-
-pub returns : goal.returns
-returns c =
-    record {
-      capacity = c.loop-i.invariant.same ∙ c.clear.ensures.capacity;
-      len = omega (arith, c.loop-i.invariant.few);
-      fit = c.loop-i.invariant.fit;
-      items = all_copied _ _ c.args.ledger.now.entries _ c.loop-i.into c.loop-i.i (omega arith) c.loop-i.invariant;
-    }

@@ -3,15 +3,9 @@ use Rattle.std.proofs.Common.{◌<◌, length, sym, refl, ◌∙◌, arith}
 use Rattle.std.proofs.lemmas.List.{get_or_read}
 use Rattle.offers.specs.declared.registers.Entry.TheVariants.{Vacant}
 use Rattle.clearing.proofs.Fits.{open_fits}
-use Rattle.clearing.proofs.Copies.{none_copied, none_more, one_more, all_copied}
+use Rattle.clearing.proofs.Copies.{none_more, one_more}
 use Rattle.clearing.proofs.closing.copy_open.Goals as goal
 use Rattle.clearing.proofs.closing.copy_open.Goals.{in-Open, in_default}
-
-pub loop-entry-init : goal.loop-entry-init
-loop-entry-init g c = none_copied _ _ _ _ c.clear.new.self c.clear.ensures.items c.clear.ensures.len refl
-
-pub push_reserved-requires : goal.push_reserved-requires
-push_reserved-requires g c = omega (arith, c.loop-entry.invariant.few, c.loop-entry.invariant.same, c.args.ledger.now.whole)
 
 pub loop-entry-preserved : goal.loop-entry-preserved
 loop-entry-preserved g c =
@@ -27,12 +21,3 @@ loop-entry-preserved g c =
           w.push_reserved.ensures.items w.push_reserved.ensures.len w.push_reserved.ensures.capacity)
       | in_default w ↦ none_more _ _ es _ c.loop-entry.into i inside c.loop-entry.invariant _ (λ r is. w.in_default.not-Open r (sym c.entry-item.is ∙ read ∙ is)) w.into-is
     ]
-
-pub returns : goal.returns
-returns g c =
-    record {
-      capacity = c.loop-entry.invariant.same ∙ c.clear.ensures.capacity;
-      len = omega (arith, c.loop-entry.invariant.few, c.args.ledger.now.whole);
-      fit = c.loop-entry.invariant.fit;
-      items = all_copied _ _ c.args.ledger.now.entries _ c.loop-entry.into c.loop-entry.entry-index (omega (arith, c.args.ledger.now.whole)) c.loop-entry.invariant;
-    }

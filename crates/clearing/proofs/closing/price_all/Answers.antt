@@ -1,13 +1,10 @@
 -- `price_all`: what a rule answers is in range by its law, and the first fault refuses.
-use Rattle.std.proofs.Common.{set, Err, sym, refl, ap, ◌∙◌, subst, arith}
+use Rattle.std.proofs.Common.{set, Err, sym, ap, ◌∙◌, subst, arith}
 use Rattle.pricing.specs.Prices.{Bounded}
 use Rattle.clearing.proofs.Fits.{price-from, price-stored}
-use Rattle.clearing.proofs.Pricings.{none_priced, one_priced, all_priced, refused_at}
+use Rattle.clearing.proofs.Pricings.{none_priced, one_priced, refused_at}
 use Rattle.clearing.proofs.closing.price_all.Goals as goal
 use Rattle.clearing.proofs.closing.price_all.Goals.{in-Open+in-Ok, in_default}
-
-pub loop-i-init : goal.loop-i-init
-loop-i-init g c = record { long = sym c.args.ledger.now.whole; fit = refl; same = refl; so = λ k h. absurd (omega arith) }
 
 pub loop-i-preserved : goal.loop-i-preserved
 loop-i-preserved g c =
@@ -25,14 +22,6 @@ loop-i-preserved g c =
       | in_default w ↦
           none_priced _ _ es i c.loop-i.prices inv _ _ w.in_default.not-Open w.prices-is (ap g.P.PriceRule.meaning w.rule-is)
     ]
-
-pub returns : goal.returns
-returns g c =
-    record {
-      fit = c.loop-i.invariant.fit;
-      answer = all_priced _ c.args.ledger.now.entries c.loop-i.i c.loop-i.prices (omega arith) c.loop-i.invariant.so;
-      same_rule = c.loop-i.invariant.same;
-    }
 
 pub returns-in-Err : goal.returns-in-Err
 returns-in-Err g c =

@@ -9,9 +9,6 @@ use Rattle.rounds.proofs.Placings.{Moved, not-finished, step-placed, finished-st
 use Rattle.rounds.proofs.Leadings.{step-leads}
 use Rattle.rounds.proofs.search.run.Goals as goal
 
-pub step-at-requires : goal.step-at-requires
-step-at-requires g c = omega (arith, c.choices-all.ensures.bound, c.if-at-all.false)
-
 pub loop-preserved : goal.loop-preserved
 loop-preserved g c =
     let v = view c.args.docket.now in

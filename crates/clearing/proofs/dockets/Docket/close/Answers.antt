@@ -10,9 +10,6 @@ use Rattle.clearing.proofs.Pricings.{at_price, priced_all}
 use Rattle.clearing.proofs.Closings.{closing-priced, docket_is}
 use Rattle.clearing.proofs.dockets.Docket.close.Goals as goal
 
-pub invariant_of-self-clause-packages_fit : goal.invariant_of-self-clause-packages_fit
-invariant_of-self-clause-packages_fit g c = c.copy_packages.ensures.fit
-
 pub invariant_of-self-clause-bands_rise : goal.invariant_of-self-clause-bands_rise
 invariant_of-self-clause-bands_rise g c = rw c.copy_bands.ensures.items (bands_rise c.args.offers.now.bands.entries)
 

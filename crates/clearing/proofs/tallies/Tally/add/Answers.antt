@@ -26,9 +26,6 @@ overflow_add-self-then-record-eq1 c =
     let i = c.args.package.now.«record».interconnection_zone - 1 in
     omega (arith, ap (λ xs. get_or xs i 0) (second ∙ first), each-most 390000000 c.args.self.now.nameplate i c.requires.room.nameplate)
 
-pub bounds-self-record-then-record-eq1 : goal.bounds-self-record-then-record-eq1
-bounds-self-record-then-record-eq1 c = let r = priced_ranges c.args.package.now c.requires.fits in omega arith
-
 pub overflow_sub-self-then-record-eq1 : goal.overflow_sub-self-then-record-eq1
 overflow_sub-self-then-record-eq1 c = let r = priced_ranges c.args.package.now c.requires.fits in omega arith
 
