@@ -31,7 +31,7 @@ pub record Firsts (xs : List Exclusion) (taken : List Bool) (i : ℕ) (first : L
 pub one_member : (a b : ℕ) → Some a ≡ Some b → a ≡ b
 one_member a b e = cc
 
-module _ (d : Docket) (xs : List Exclusion) (held : xs ≡ vec_items d.exclusions) (taken : List Bool) where
+module _ (d : Docket) (xs : List Exclusion) (held : xs ≡ vec_items d.exclusions.list) (taken : List Bool) where
   -- the exclusion at a place is in range
   ranged : (k : ℕ) → k < length xs → ExclusionRanges (get_or xs k no_exclusion)
   ranged k h = exclusion_held d k xs held h

@@ -64,8 +64,8 @@ module _ (supply : List ℕ) where
   }
 
   -- so with all bands of a docket
-  pub sold_in_all : (d : Docket) → Sold (sales_of (vec_items d.bands) supply)
-  sold_in_all d = sales-bounded (vec_items d.bands) d.bands_fit (omega (arith, d.bands.ok.0, d.few_bands))
+  pub sold_in_all : (d : Docket) → Sold (sales_of (vec_items d.bands.list) supply)
+  sold_in_all d = sales-bounded (vec_items d.bands.list) d.bands_fit (omega (arith, d.bands.list.ok.0, d.bands.few))
 
 -- What a turn over the bands has room for, and what it leaves: the band is at place i, and is sold so much.
 pub record Turn (supply : List ℕ) (bs : List OpenBand) (i : ℕ) (before : Sales) (sold : ℕ) : Type 0 where
@@ -77,12 +77,12 @@ pub record Turn (supply : List ℕ) (bs : List OpenBand) (i : ℕ) (before : Sal
   pub next : with_sale before (get_or bs i no_band) sold ≡ sales_of (take (i + 1) bs) supply
 
 -- of a docket's bands, after the sales to those before the place
-pub turn : (d : Docket) (supply : List ℕ) (bs : List OpenBand) (i : ℕ) (before : Sales) (sold : ℕ) → bs ≡ vec_items d.bands → i < length bs
+pub turn : (d : Docket) (supply : List ℕ) (bs : List OpenBand) (i : ℕ) (before : Sales) (sold : ℕ) → bs ≡ vec_items d.bands.list → i < length bs
     → before ≡ sales_of (take i bs) supply → sold ≡ filled supply (get_or bs i no_band) → Turn supply bs i before sold
 turn d supply bs i before sold held inside so_far is =
     let b = get_or bs i no_band in
     let ranges = band_ranged d i bs held inside in
-    let few : length (take i bs) ≤ 64 = simp length-take (omega (arith, ap length held, d.bands.ok.0, d.few_bands)) in
+    let few : length (take i bs) ≤ 64 = simp length-take (omega (arith, ap length held, d.bands.list.ok.0, d.bands.few)) in
     let bounds = subst Sold (sym so_far) (sales-bounded supply (take i bs) (each_take band_fits i bs (rw held d.bands_fit)) few) in
     let most = filled-most supply b ranges in
     let dear = paid-most supply b ranges in

@@ -21,11 +21,11 @@ pub record View : Type 0 where
 
 abbrev pub view : Docket → View
 view d = record {
-  packages = vec_items d.packages;
-  bands = vec_items d.bands;
-  pairs = vec_items d.pairs;
-  exclusions = vec_items d.exclusions;
-  limits = vec_items d.limits;
+  packages = vec_items d.packages.list;
+  bands = vec_items d.bands.list;
+  pairs = vec_items d.pairs.list;
+  exclusions = vec_items d.exclusions.list;
+  limits = vec_items d.limits.list;
 }
 
 -- where nothing is open

@@ -15,10 +15,10 @@ pub struct Taken<'a> {
 impl Docket {
     // What a choice takes. Its binary digits stand for the docket's packages, the lowest for the first.
     pub fn taken(&self, choice: u64) -> Taken<'_>
-        ensures { still_taken result ≡ taken self.now.packages.items choice }
+        ensures { still_taken result ≡ taken self.now.packages.list.items choice }
     {
         Taken {
-            packages: &self.packages,
+            packages: &self.packages.list,
             digits: choice,
         }
     }

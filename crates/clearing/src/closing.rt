@@ -1,5 +1,5 @@
 // Closing: the open records are copied into the docket, and each package is priced.
-ghost use Rattle.std.specs.Prelude.{◌≡◌, ℕ, ◌+◌, ◌-◌, ◌≤◌, true, ◌&&◌, ◌||◌, map, length, pos, IfOk, Ok, Err, vec_len, vec_capacity, MatchResult, ◌==◌, nat_lt, slice_index_or};
+ghost use Rattle.std.specs.Prelude.{◌≡◌, ℕ, ◌+◌, ◌-◌, ◌≤◌, true, ◌&&◌, ◌||◌, map, pos, IfOk, Ok, Err, MatchResult, ◌==◌, nat_lt, slice_index_or};
 ghost use Rattle.offers.specs.Memory.{held};
 ghost use Rattle.offers.specs.declared.records.Package.{Package as Rated};
 ghost use Rattle.offers.specs.declared.registers.Entry.TheVariants.{Vacant, Open};
@@ -8,6 +8,7 @@ ghost use Rattle.clearing.specs.Closing.{ByClosing, closing, priced, no_price, o
 ghost use Rattle.clearing.specs.Lawful.{view, nothing_open};
 ghost use Rattle.clearing.specs.Ranges.{each, fits, price_fits, package_fits, band_fits};
 
+use crate::bounded::BoundedVec;
 use crate::dockets::{Docket, OpenBand, PricedPackage};
 use offers::ledgers::Ledger;
 use offers::memory::Offers;
@@ -23,11 +24,11 @@ impl Docket {
         ensures { IfOk result (λ d. view d ≡ nothing_open) }
     {
         Ok(Docket {
-            packages: Vec::with_capacity(heap, 40)?,
-            bands: Vec::with_capacity(heap, 64)?,
-            pairs: Vec::with_capacity(heap, 64)?,
-            exclusions: Vec::with_capacity(heap, 64)?,
-            limits: Vec::with_capacity(heap, 32)?,
+            packages: BoundedVec::new(heap)?,
+            bands: BoundedVec::new(heap)?,
+            pairs: BoundedVec::new(heap)?,
+            exclusions: BoundedVec::new(heap)?,
+            limits: BoundedVec::new(heap)?,
         })
     }
 
@@ -93,18 +94,19 @@ fn price_fault(at: usize, depth: u8) -> Refusal
 
 // Puts the open packages with their prices in the place of what was there. This and the two below differ in what they make of a
 // record; a closure for it would need longer clauses than the loops are.
-fn copy_packages(ledger: &Ledger<Package, 40>, prices: &[i64; 40], into: &mut Vec<PricedPackage>)
-    requires room { 40 ≤ vec_capacity into.old }
+fn copy_packages(
+    ledger: &Ledger<Package, 40>,
+    prices: &[i64; 40],
+    into: &mut BoundedVec<PricedPackage, 40>,
+)
     requires prices_fit { each price_fits prices.now ≡ true }
-    ensures capacity { vec_capacity into.new ≡ vec_capacity into.old }
-    ensures len { vec_len into.new ≤ 40 }
-    ensures fit { each package_fits into.new.items ≡ true }
-    ensures items { into.new.items ≡ map (λ p. record { number = p.number; price = slice_index_or prices.now (p.number - 1) (pos 0); «record» = p.of }) (open_from 1 ledger.now.entries) }
+    ensures fit { each package_fits into.new.list.items ≡ true }
+    ensures items { into.new.list.items ≡ map (λ p. record { number = p.number; price = slice_index_or prices.now (p.number - 1) (pos 0); «record» = p.of }) (open_from 1 ledger.now.entries) }
 {
     into.clear();
     for (i, entry) in ledger.entries.iter().enumerate() {
         if let Entry::Open(record) = entry {
-            into.push_reserved(PricedPackage {
+            into.push(PricedPackage {
                 number: i as u8 + 1,
                 price: prices[i],
                 record: *record,
@@ -114,17 +116,14 @@ fn copy_packages(ledger: &Ledger<Package, 40>, prices: &[i64; 40], into: &mut Ve
 }
 
 // Puts the open bands in the place of what was there, each with what stands ahead of it.
-fn copy_bands(ledger: &Ledger<Band, 64>, into: &mut Vec<OpenBand>)
-    requires room { 64 ≤ vec_capacity into.old }
-    ensures capacity { vec_capacity into.new ≡ vec_capacity into.old }
-    ensures len { vec_len into.new ≤ 64 }
-    ensures fit { each band_fits into.new.items ≡ true }
-    ensures items { into.new.items ≡ open_bands ledger.now.entries }
+fn copy_bands(ledger: &Ledger<Band, 64>, into: &mut BoundedVec<OpenBand, 64>)
+    ensures fit { each band_fits into.new.list.items ≡ true }
+    ensures items { into.new.list.items ≡ open_bands ledger.now.entries }
 {
     into.clear();
     for (i, entry) in ledger.entries.iter().enumerate() {
         if let Entry::Open(record) = entry {
-            into.push_reserved(OpenBand {
+            into.push(OpenBand {
                 number: i as u8 + 1,
                 ahead: ahead_of(ledger, i, record),
                 record: *record,
@@ -159,17 +158,14 @@ fn comes_ahead(other: &Band, band: &Band, smaller_number: bool) -> bool
 }
 
 // Puts the open records of a register in the place of what was there.
-fn copy_open<R: Record, const N: usize>(ledger: &Ledger<R, N>, into: &mut Vec<R>)
-    requires room { length ledger.now.entries ≤ vec_capacity into.old }
-    ensures capacity { vec_capacity into.new ≡ vec_capacity into.old }
-    ensures len { vec_len into.new ≤ length ledger.now.entries }
-    ensures fit { each (fits R.Record.layout) into.new.items ≡ true }
-    ensures items { into.new.items ≡ open_records ledger.now.entries }
+fn copy_open<R: Record, const N: usize>(ledger: &Ledger<R, N>, into: &mut BoundedVec<R, N>)
+    ensures fit { each (fits R.Record.layout) into.new.list.items ≡ true }
+    ensures items { into.new.list.items ≡ open_records ledger.now.entries }
 {
     into.clear();
     for entry in ledger.entries.iter() {
         if let Entry::Open(record) = entry {
-            into.push_reserved(*record);
+            into.push(*record);
         }
     }
 }

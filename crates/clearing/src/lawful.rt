@@ -16,19 +16,19 @@ use offers::records::Limit;
 
 // Whether each taken package that needs another has it among those that `within` has.
 pub fn pairs_kept(docket: &Docket, taken: &Tally, within: &Tally) -> bool
-    ensures { Decides result (PairsKept docket.now.pairs.items taken.now.takes within.now.takes) }
+    ensures { Decides result (PairsKept docket.now.pairs.list.items taken.now.takes within.now.takes) }
 {
-    docket.pairs.iter().all(|pair| {
+    docket.pairs.list.iter().all(|pair| {
         !taken.takes[pair.dependent as usize] || within.takes[pair.needed as usize]
     })
 }
 
 // Whether no two different taken packages are in one group. A loop, since each turn looks at what the turns before it saw.
 pub fn exclusions_kept(docket: &Docket, taken: &Tally) -> bool
-    ensures { Decides result (ExclusionsKept docket.now.exclusions.items taken.now.takes) }
+    ensures { Decides result (ExclusionsKept docket.now.exclusions.list.items taken.now.takes) }
 {
     let mut first = [None; 16];
-    for exclusion in docket.exclusions.iter() {
+    for exclusion in docket.exclusions.list.iter() {
         let group = exclusion.group as usize - 1;
         let member = exclusion.member;
         if taken.takes[member as usize] {
@@ -43,10 +43,11 @@ pub fn exclusions_kept(docket: &Docket, taken: &Tally) -> bool
 
 // Whether the taken packages without connection priority keep the limits of their zones.
 pub fn zones_kept(docket: &Docket, taken: &Tally) -> bool
-    ensures { Decides result (ZonesKept docket.now.limits.items taken.now.nameplate taken.now.export) }
+    ensures { Decides result (ZonesKept docket.now.limits.list.items taken.now.nameplate taken.now.export) }
 {
     docket
         .limits
+        .list
         .iter()
         .all(|limit| zone_load(limit, taken) <= limit.amount as u64)
 }
@@ -68,11 +69,11 @@ fn zone_load(limit: &Limit, taken: &Tally) -> u64
 // The percentages that bind, by the zone that a limit has for each: power before and after, certificates before and after; the least
 // of each, or 100.
 fn percentages(docket: &Docket) -> [u64; 4]
-    ensures value { result ≡ row (percentage docket.now.limits.items) 1 4 }
+    ensures value { result ≡ row (percentage docket.now.limits.list.items) 1 4 }
     ensures bound { each (λ n. nat_le n 100) result ≡ true }
 {
     let mut least = [100u64; 4];
-    for limit in docket.limits.iter() {
+    for limit in docket.limits.list.iter() {
         if limit.is_on(Sort::Percentage) {
             let zone = limit.zone as usize - 1;
             least[zone] = least[zone].min(limit.amount as u64);
@@ -98,7 +99,7 @@ fn dates_kept(docket: &Docket, taken: &Tally, sales: &Sales) -> bool
     requires before { each (λ n. nat_le n 400000000) taken.now.before ≡ true }
     requires after { each (λ n. nat_le n 400000000) taken.now.after ≡ true }
     requires sold { each (λ n. nat_le n 6400000000) sales.now.sold ≡ true }
-    ensures { Decides result (DatesKept docket.now.limits.items taken.now sales.now.sold) }
+    ensures { Decides result (DatesKept docket.now.limits.list.items taken.now sales.now.sold) }
 {
     let least = percentages(docket);
     (1..ENERGY).all(|market| {

@@ -1,5 +1,5 @@
 // What a supply sells: the bands are filled by falling price, equal prices by rising number.
-ghost use Rattle.std.specs.Prelude.{◌≡◌, true, length};
+ghost use Rattle.std.specs.Prelude.{◌≡◌, true};
 ghost use Rattle.clearing.specs.Ranges.{band_fits};
 ghost use Rattle.clearing.specs.Tallies.{row};
 ghost use Rattle.clearing.specs.Sales.{filled, sale_of, sales_of};
@@ -24,13 +24,13 @@ pub(crate) fn sale(supply: &[u64; 5], band: &OpenBand) -> u64
 
 // What a supply of each market sells to the docket's bands.
 pub fn sell(docket: &Docket, supply: &[u64; 5]) -> Sales
-    ensures { result ≡ sales_of docket.now.bands.items supply.now }
+    ensures { result ≡ sales_of docket.now.bands.list.items supply.now }
 {
     let mut sales = Sales {
         sold: [0; 5],
         income: 0,
     };
-    for band in docket.bands.iter() {
+    for band in docket.bands.list.iter() {
         let sold = sale(supply, band);
         sales.sold[band.record.market as usize - 1] += sold;
         sales.income += sold * band.record.price as u64;
@@ -40,10 +40,10 @@ pub fn sell(docket: &Docket, supply: &[u64; 5]) -> Sales
 
 // What each band is sold by its offer number, number n at place n - 1; 0 for a number that is not open.
 pub fn sales_row(docket: &Docket, supply: &[u64; 5]) -> [u64; 64]
-    ensures { result ≡ row (sale_of docket.now.bands.items supply.now) 1 64 }
+    ensures { result ≡ row (sale_of docket.now.bands.list.items supply.now) 1 64 }
 {
     let mut row = [0u64; 64];
-    for band in docket.bands.iter() {
+    for band in docket.bands.list.iter() {
         row[band.number as usize - 1] = sale(supply, band);
     }
     row

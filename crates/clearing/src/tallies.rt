@@ -32,7 +32,7 @@ pub struct Tally {
 impl Tally {
     // What a choice takes of a docket, together.
     pub fn of(docket: &Docket, choice: u64) -> Tally
-        ensures { result ≡ tally_of (taken docket.now.packages.items choice) }
+        ensures { result ≡ tally_of (taken docket.now.packages.list.items choice) }
     {
         let mut sums = Tally {
             takes: [false; 41],

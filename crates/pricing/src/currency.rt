@@ -1,5 +1,5 @@
 // The currency rule: prices in dollars are weighed against those in pesos.
-ghost use Rattle.std.specs.Prelude.{◌≡◌, ℤ, pos, negsuc, ◌+ℤ◌, ◌*ℤ◌, ◌≤ℤ◌, ◌<ℤ◌};
+ghost use Rattle.std.specs.Prelude.{◌≡◌, ℤ, pos, ◌+ℤ◌, ◌*ℤ◌, ◌≤ℤ◌, ◌<ℤ◌};
 ghost use Rattle.pricing.specs.Prices.{currency_price, hundred_millionth, above};
 ghost use Rattle.std.proofs.Common.{rules};
 

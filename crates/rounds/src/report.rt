@@ -47,7 +47,7 @@ impl Report {
         ensures { IfOk result (Reports (view docket.now) award) }
     {
         Ok(Report {
-            open: docket.packages.len(),
+            open: docket.packages.list.len(),
             choices: choices(docket),
             packages: taken_numbers(heap, docket, award.choice)?,
             bands: sold_quantities(heap, docket, award.choice)?,
@@ -58,7 +58,7 @@ impl Report {
 
 // The offer numbers of the packages that a choice takes.
 fn taken_numbers(heap: Global, docket: &Docket, choice: u64) -> Result<Vec<u8>, AllocError>
-    ensures { IfOk result (λ v. v.items ≡ map (λ p. p.number) (taken docket.now.packages.items choice)) }
+    ensures { IfOk result (λ v. v.items ≡ map (λ p. p.number) (taken docket.now.packages.list.items choice)) }
 {
     docket
         .taken(choice)
@@ -68,12 +68,13 @@ fn taken_numbers(heap: Global, docket: &Docket, choice: u64) -> Result<Vec<u8>, 
 
 // What each open band is sold of what a choice supplies.
 fn sold_quantities(heap: Global, docket: &Docket, choice: u64) -> Result<Vec<Sold>, AllocError>
-    ensures { IfOk result (λ v. v.items ≡ map (sold_line (supplies (view docket.now) choice)) docket.now.bands.items) }
+    ensures { IfOk result (λ v. v.items ≡ map (sold_line (supplies (view docket.now) choice)) docket.now.bands.list.items) }
 {
     let taken = Tally::of(docket, choice);
     let row = sales_row(docket, &taken.supply);
     docket
         .bands
+        .list
         .iter()
         .map(|band| Sold {
             band: band.number,

@@ -116,11 +116,11 @@ fn step<B: BoundingRule>(docket: &Docket, at: Position, rule: &mut B) -> Positio
 
 // The choices of a docket.
 pub(crate) fn choices(docket: &Docket) -> u64
-    ensures value { result ≡ 2 ^ vec_len docket.now.packages }
+    ensures value { result ≡ 2 ^ vec_len docket.now.packages.list }
     ensures count { result ≡ choice_count (view docket.now) }
     ensures bound { result ≤ 2 ^ 40 }
 {
-    1u64 << docket.packages.len()
+    1u64 << docket.packages.list.len()
 }
 
 // Makes the steps that it is given, or fewer if every choice is settled before. As many steps as there are packages settle
@@ -132,7 +132,7 @@ pub(crate) fn run<B: BoundingRule>(
     steps: u32,
 ) -> Position
     ensures value { Placed (view docket.now) (standing from) → standing result ≡ run_of (B.BoundingRule.answers rule.old) (view docket.now) steps (standing from) }
-    ensures falls { 0 < steps → from.settled < 2 ^ vec_len docket.now.packages → left result < left from }
+    ensures falls { 0 < steps → from.settled < 2 ^ vec_len docket.now.packages.list → left result < left from }
     ensures settles { Placed (view docket.now) (standing from) → from.settled < choice_count (view docket.now) → length (view docket.now).packages ≤ steps → from.settled < result.settled }
     ensures placed { Placed (view docket.now) (standing from) → Placed (view docket.now) (standing result) }
     ensures leads { Placed (view docket.now) (standing from) → ByClosing (view docket.now) → Leads (view docket.now) (standing from) → Leads (view docket.now) (standing result) }

@@ -1,5 +1,5 @@
 // One sheet cleared from end to end: read into an empty round, priced as filed, closed, and searched until finished.
-ghost use Rattle.std.specs.Prelude.{◌≡◌, true, Ok, Err, MatchResult};
+ghost use Rattle.std.specs.Prelude.{◌≡◌, Ok, Err, MatchResult};
 ghost use Rattle.clearing.specs.Closing.{ByClosing};
 ghost use Rattle.clearing.specs.Lawful.{view};
 ghost use Rattle.rounds.specs.declared.sheet_round.Stop.TheVariants.{Refused, Memory};

@@ -35,10 +35,10 @@ below_zero-between (p ∷ ps) ok =
 
 -- the next of the taken packages adds its price, and there is room for it
 taken-next : (d : Docket) (choice n : ℕ) (p : PricedPackage)
-    → (n < length (taken (vec_items d.packages) choice)) × (p ≡ get_or (taken (vec_items d.packages) choice) n p)
-    → (cost (take (n + 1) (taken (vec_items d.packages) choice)) ≡ cost (take n (taken (vec_items d.packages) choice)) +ℤ p.price)
-    × (negsuc 799999999999 ≤ℤ cost (take (n + 1) (taken (vec_items d.packages) choice)))
-    × (cost (take (n + 1) (taken (vec_items d.packages) choice)) ≤ℤ pos 800000000000)
+    → (n < length (taken (vec_items d.packages.list) choice)) × (p ≡ get_or (taken (vec_items d.packages.list) choice) n p)
+    → (cost (take (n + 1) (taken (vec_items d.packages.list) choice)) ≡ cost (take n (taken (vec_items d.packages.list) choice)) +ℤ p.price)
+    × (negsuc 799999999999 ≤ℤ cost (take (n + 1) (taken (vec_items d.packages.list) choice)))
+    × (cost (take (n + 1) (taken (vec_items d.packages.list) choice)) ≤ℤ pos 800000000000)
 taken-next d choice n p next =
     let room = next-room d choice n p next in
     let r = priced_ranges p (next-fits d choice n p next) in
@@ -57,8 +57,8 @@ free-next ps n p next =
 free-between : (d : Docket) (b : Span) (n : ℕ) → (negsuc 799999999999 ≤ℤ below_zero (take n (free_ones (view d) b))) × (below_zero (take n (free_ones (view d) b)) ≤ℤ pos 0)
 free-between d b n =
     let all = free_ones (view d) b in
-    let between = below_zero-between (take n all) (each_take package_fits n all (each_take package_fits b.free (vec_items d.packages) d.packages_fit)) in
-    (omega (arith, ints, between.0, length-take n all, length-take b.free (vec_items d.packages), (ranged_docket d).few_packages), between.1)
+    let between = below_zero-between (take n all) (each_take package_fits n all (each_take package_fits b.free (vec_items d.packages.list) d.packages_fit)) in
+    (omega (arith, ints, between.0, length-take n all, length-take b.free (vec_items d.packages.list), (ranged_docket d).few_packages), between.1)
 
 pub overflow_add-cost : goal.overflow_add-cost
 overflow_add-cost c =
@@ -84,7 +84,7 @@ pub overflow_add-cost-in-loop-free : goal.overflow_add-cost-in-loop-free
 overflow_add-cost-in-loop-free c =
     let d = c.args.docket.now in
     let b = span c.args.block in
-    let road = YieldsList-from_take {s = c.into_iter-free-iterator.result} b.free (YieldsList-from_slice (vec_items d.packages) cc) cc in
+    let road = YieldsList-from_take {s = c.into_iter-free-iterator.result} b.free (YieldsList-from_slice (vec_items d.packages.list) cc) cc in
     let t = YieldsList-turn road c.loop-free.yielded _ c.loop-free.yielded_by _ c.next-in-loop-free.new.self c.in-Some-free.free c.in-Some-free.is c.next-in-loop-free.ensures.steps in
     let next = free-next (free_ones (view d) b) _ c.in-Some-free.free.now t in
     let between = free-between d b (length c.loop-free.yielded + 1) in
@@ -95,7 +95,7 @@ pub loop-free-preserved : goal.loop-free-preserved
 loop-free-preserved c =
     let d = c.args.docket.now in
     let b = span c.args.block in
-    let road = YieldsList-from_take {s = c.into_iter-free-iterator.result} b.free (YieldsList-from_slice (vec_items d.packages) cc) cc in
+    let road = YieldsList-from_take {s = c.into_iter-free-iterator.result} b.free (YieldsList-from_slice (vec_items d.packages.list) cc) cc in
     let t = YieldsList-turn road c.loop-free.yielded _ c.loop-free.yielded_by _ c.next-in-loop-free.new.self c.in-Some-free.free c.in-Some-free.is c.next-in-loop-free.ensures.steps in
     let next = free-next (free_ones (view d) b) _ c.in-Some-free.free.now t in
     let between = free-between d b (length c.loop-free.yielded + 1) in

@@ -1,9 +1,8 @@
 -- What the loop of `copy_bands` keeps true: the open bands so far stand there, each in range.
-use Rattle.std.proofs.Common.{vec_capacity}
 use Rattle.clearing.specs.Ranges.{band_fits}
 use Rattle.clearing.proofs.Copies.{Copied}
 use Rattle.clearing.proofs.Openings.{with_ahead}
 use Rattle.clearing.proofs.closing.copy_bands.Given as goal
 
 abbrev pub invariant-loop-i : goal.invariant-loop-i
-invariant-loop-i l = Copied band_fits (with_ahead l.ledger.entries) l.ledger.entries (vec_capacity l.initial.into) l.i l.into
+invariant-loop-i l = Copied band_fits (with_ahead l.ledger.entries) l.ledger.entries l.i l.into.list

@@ -1,9 +1,8 @@
 -- What the loop of `copy_open` keeps true: the open records so far stand there, each in range.
-use Rattle.std.proofs.Common.{vec_capacity}
 use Rattle.clearing.specs.Ranges.{fits}
 use Rattle.clearing.proofs.Copies.{Copied}
 use Rattle.clearing.proofs.closing.copy_open.Given as goal
 
 abbrev pub invariant-loop-entry : goal.invariant-loop-entry
 invariant-loop-entry g l =
-    Copied (fits g.R.Record.layout) (λ r. r.of) l.ledger.entries (vec_capacity l.initial.into) l.entry-index l.into
+    Copied (fits g.R.Record.layout) (λ r. r.of) l.ledger.entries l.entry-index l.into.list

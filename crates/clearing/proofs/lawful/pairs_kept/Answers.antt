@@ -10,7 +10,7 @@ use Rattle.clearing.proofs.lawful.pairs_kept.Goals as goal
 pub all-requires-clause-callable : goal.all-requires-clause-callable
 all-requires-clause-callable c =
     let d = c.args.docket.now in
-    serves_from_places (YieldsList-from_slice (vec_items d.pairs) cc) (λ x q h. search rules)
+    serves_from_places (YieldsList-from_slice (vec_items d.pairs.list) cc) (λ x q h. search rules)
     (λ x k h e.
-    let r = pair_ranges x.now (each_item (fits pair_layout) (vec_items d.pairs) k x.now h e d.pairs_fit) in
+    let r = pair_ranges x.now (each_item (fits pair_layout) (vec_items d.pairs.list) k x.now h e d.pairs_fit) in
     search (rules, arith))

@@ -13,12 +13,12 @@ use Rattle.clearing.proofs.lawful.zones_kept.Goals as goal
 pub all-requires-clause-callable : goal.all-requires-clause-callable
 all-requires-clause-callable c =
     let d = c.args.docket.now in
-    serves_from_places (YieldsList-from_slice (vec_items d.limits) cc) (λ x q h. search rules)
-    (λ x k h e. let ok = each_item (fits limit_layout) (vec_items d.limits) k x.now h e d.limits_fit in search (rules, ok))
+    serves_from_places (YieldsList-from_slice (vec_items d.limits.list) cc) (λ x q h. search rules)
+    (λ x k h e. let ok = each_item (fits limit_layout) (vec_items d.limits.list) k x.now h e d.limits_fit in search (rules, ok))
 
 pub returns : goal.returns
 returns c =
-    let limits = vec_items c.args.docket.now.limits in
+    let limits = vec_items c.args.docket.now.limits.list in
     let t = c.args.taken.now in
     tested-all (λ (l : Limit). leb (cond (eqb l.sort 1) (get_or t.nameplate (l.zone - 1) 0) (cond (eqb l.sort 2) (get_or t.export (l.zone - 1) 0) 0)) l.amount) _
     (λ l. load_decides l.sort _ _ l.amount) limits c.all.result

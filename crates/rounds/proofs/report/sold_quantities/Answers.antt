@@ -18,7 +18,7 @@ use Rattle.rounds.proofs.report.sold_quantities.Goals as goal
 pub collect-requires-clause-can : goal.collect-requires-clause-can
 collect-requires-clause-can c =
     let d = c.args.docket.now in
-    let bands = vec_items d.bands in (
+    let bands = vec_items d.bands.list in (
       tt,
       serves_from_places (YieldsList-from_slice bands cc) (λ x q k. search rules)
           (λ x i inside is.
@@ -29,7 +29,7 @@ collect-requires-clause-can c =
 pub returns : goal.returns
 returns c =
     let d = c.args.docket.now in
-    let bands = vec_items d.bands in
+    let bands = vec_items d.bands.list in
     let amounts = supplies (view d) c.args.choice in
     let made : OpenBand → Sold = λ b. record { band = b.number; quantity = get_or c.sales_row-row.result (b.number - 1) 0 } in
     let rows : c.sales_row-row.result ≡ row (sale_of bands amounts) 1 64 = c.sales_row-row.ensures ∙ ap (λ t. row (sale_of bands t.supply) 1 64) c.of-taken.ensures in

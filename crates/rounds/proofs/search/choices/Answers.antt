@@ -5,6 +5,6 @@ use Rattle.rounds.proofs.search.choices.Goals as goal
 
 pub returns-clause-bound : goal.returns-clause-bound
 returns-clause-bound c =
-    let few = c.args.docket.now.few_packages in
+    let few = c.args.docket.now.packages.few in
     let count : c.len.result ≤ 40 = omega (arith, c.len.ensures) in
     omega (arith, one_shl c.len.result 64 (omega arith), pow_mono count)

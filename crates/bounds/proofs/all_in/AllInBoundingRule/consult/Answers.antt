@@ -22,7 +22,7 @@ returns c =
     let sold = subst Sold (sym c.sell-sales.ensures) (sold_in_all c.of-all.result.supply d) in
     let income =
     income-is d c.last.result c.of-all.result c.sell-sales.result c.of-all.ensures c.sell-sales.ensures
-    ∙ ap (λ choice. paid (vec_items d.bands) (filled_sales (view d) choice)) c.last.ensures in
+    ∙ ap (λ choice. paid (vec_items d.bands.list) (filled_sales (view d) choice)) c.last.ensures in
     let costs = c.least_cost.ensures in
     record {
       answer = λ block. ap Some (omega (arith, ints, income, sold.income, costs.value, costs.low, costs.high));

@@ -30,19 +30,19 @@ tested v b = pairs_test v b && (groups_test v b && zones_test v b)
 
 module _ (d : Docket) (b : Span) (t : Tally) (counted : t ≡ tally_of (fixed (view d) b)) (r s : Bool) (says : r ≡ s) where
   -- the test of pairs says the same of the packages
-  pairs_say : (last : ℕ) (w : Tally) → w ≡ tally_of (taken (vec_items d.packages) last) → last ≡ last_of b
-      → Decides r (PairsKept (vec_items d.pairs) t.takes w.takes) → pairs_test (view d) b ≡ s
+  pairs_say : (last : ℕ) (w : Tally) → w ≡ tally_of (taken (vec_items d.packages.list) last) → last ≡ last_of b
+      → Decides r (PairsKept (vec_items d.pairs.list) t.takes w.takes) → pairs_test (view d) b ≡ s
   pairs_say last w others is decides =
-      let all = others ∙ ap (λ n. tally_of (taken (vec_items d.packages) n)) is in
-      sym (pairs-tested (fixed (view d) b) t counted r (possible (view d) b) w all (vec_items d.pairs) d.pairs_fit decides) ∙ says
+      let all = others ∙ ap (λ n. tally_of (taken (vec_items d.packages.list) n)) is in
+      sym (pairs-tested (fixed (view d) b) t counted r (possible (view d) b) w all (vec_items d.pairs.list) d.pairs_fit decides) ∙ says
 
   -- so does that of exclusions
-  groups_say : Decides r (ExclusionsKept (vec_items d.exclusions) t.takes) → groups_test (view d) b ≡ s
-  groups_say decides = sym (groups_tested (fixed (view d) b) t counted r (vec_items d.exclusions) d.exclusions_fit decides) ∙ says
+  groups_say : Decides r (ExclusionsKept (vec_items d.exclusions.list) t.takes) → groups_test (view d) b ≡ s
+  groups_say decides = sym (groups_tested (fixed (view d) b) t counted r (vec_items d.exclusions.list) d.exclusions_fit decides) ∙ says
 
   -- and that of zones
-  zones_say : Decides r (ZonesKept (vec_items d.limits) t.nameplate t.export) → zones_test (view d) b ≡ s
-  zones_say decides = sym (zones-tested (fixed (view d) b) t counted r (vec_items d.limits) d.limits_fit decides) ∙ says
+  zones_say : Decides r (ZonesKept (vec_items d.limits.list) t.nameplate t.export) → zones_test (view d) b ≡ s
+  zones_say decides = sym (zones-tested (fixed (view d) b) t counted r (vec_items d.limits.list) d.limits_fit decides) ∙ says
 
 pub returns-then-zones_kept : goal.returns-then-zones_kept
 returns-then-zones_kept c =

@@ -5,4 +5,4 @@ use Rattle.clearing.specs.Tallies.{tally_of}
 use Rattle.clearing.proofs.tallies.Tally.of.Given as goal
 
 abbrev pub invariant-loop-package : goal.invariant-loop-package
-invariant-loop-package l = l.sums ≡ tally_of (take (length l.yielded) (taken (vec_items l.docket.packages) l.choice))
+invariant-loop-package l = l.sums ≡ tally_of (take (length l.yielded) (taken (vec_items l.docket.packages.list) l.choice))
