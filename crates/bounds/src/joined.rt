@@ -16,9 +16,6 @@ impl<P: BoundingRule, Q: BoundingRule> BoundingRule for Joined<P, Q> {
     fn consult(&mut self, docket: &Docket, block: Block) -> Option<i64> {
         let one = self.0.consult(docket, block);
         let other = self.1.consult(docket, block);
-        match (one, other) {
-            (Some(cap), Some(other_cap)) => Some(cap.min(other_cap)),
-            _ => None,
-        }
+        Some(one?.min(other?))
     }
 }
