@@ -14,14 +14,16 @@ use std::io::Read;
 // The most bytes that are read.
 const MOST: usize = 4096;
 
-// Says on standard error how far a search is, at every so many notes.
+// Of so many notes one is said.
+const NOTES: u8 = 16;
+
+// Says on standard error how far a search is, at every sixteenth note.
 #[derive(Drop)]
 struct Meter<'a> {
     rt: &'a HostRuntime,
+    // since the last that was said
     notes: u8,
 }
-
-const NOTES: u8 = 16;
 
 impl<'a> Meter<'a> {
     fn new(rt: &'a HostRuntime) -> Meter<'a>
@@ -30,7 +32,7 @@ impl<'a> Meter<'a> {
         Meter { rt, notes: 0 }
     }
 
-    // Counts a note, and answers whether it is one to be said.
+    // Counts a note, and answers whether it is due to be said. A count that wraps is right too, as 256 is a multiple of 16.
     fn is_due(&mut self) -> bool
         ensures counted { self.new.notes ≡ (self.old.notes + 1) % 16 }
         ensures due { Decides result (self.new.notes ≡ 0) }

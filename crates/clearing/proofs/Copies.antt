@@ -1,4 +1,4 @@
--- How a row of memory fills with the open records of a register: what stands in it after so many entries.
+-- How a list fills with the open records of a register: what stands in it after so many entries.
 use Rattle.std.proofs.Common.{◌≡◌, ℕ, ◌+◌, ◌<◌, ◌≤◌, Bool, true, List, [], ◌∷◌, ◌++◌, map, length, get_or, vec_items, vec_len, Vec, sym, ap, ◌∙◌, subst, arith}
 use Rattle.std.proofs.lemmas.List.{map_push, length_push}
 use Rattle.offers.specs.declared.registers.Entry.{Entry}

@@ -30,7 +30,7 @@ impl<T: Drop, const N: usize> BoundedVec<T, N> {
 
     // One element more, at the end.
     pub(crate) fn push(&mut self, item: T)
-        requires room { vec_len self.old.list < N }
+        requires not_full { vec_len self.old.list < N }
         ensures { self.new.list.items ≡ self.old.list.items ++ item ∷ [] }
     {
         self.list.push_reserved(item);

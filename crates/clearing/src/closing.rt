@@ -105,11 +105,11 @@ fn copy_packages(
 {
     into.clear();
     for (i, entry) in ledger.entries.iter().enumerate() {
-        if let Entry::Open(record) = entry {
+        if let Entry::Open(package) = entry {
             into.push(PricedPackage {
                 number: i as u8 + 1,
                 price: prices[i],
-                record: *record,
+                record: *package,
             });
         }
     }
@@ -122,11 +122,11 @@ fn copy_bands(ledger: &Ledger<Band, 64>, into: &mut BoundedVec<OpenBand, 64>)
 {
     into.clear();
     for (i, entry) in ledger.entries.iter().enumerate() {
-        if let Entry::Open(record) = entry {
+        if let Entry::Open(band) = entry {
             into.push(OpenBand {
                 number: i as u8 + 1,
-                ahead: ahead_of(ledger, i, record),
-                record: *record,
+                ahead: ahead_of(ledger, i, band),
+                record: *band,
             });
         }
     }
@@ -164,8 +164,8 @@ fn copy_open<R: Record, const N: usize>(ledger: &Ledger<R, N>, into: &mut Bounde
 {
     into.clear();
     for entry in ledger.entries.iter() {
-        if let Entry::Open(record) = entry {
-            into.push(*record);
+        if let Entry::Open(open) = entry {
+            into.push(*open);
         }
     }
 }

@@ -13,7 +13,7 @@ loop-i-preserved c =
     let i = c.loop-i.i in
     elim c.match-entry.branch [
       | in-Open w ↦
-          let r = w.in-Open.«record» in
+          let r = w.in-Open.band in
           rw w.into-is (one_more _ _ es c.loop-i.into.list i (omega arith) c.loop-i.invariant w.push.new.self.list r
           (record { number = i + 1; ahead = w.ahead_of.result; «record» = r }) w.in-Open.is
           (ap (λ n. record { number = i + 1; ahead = n; «record» = r }) w.ahead_of.ensures.value)

@@ -15,7 +15,7 @@ loop-i-preserved c =
     let price = get_or c.args.prices.now i (pos 0) in
     elim c.match-entry.branch [
       | in-Open w ↦
-          let r = w.in-Open.«record» in
+          let r = w.in-Open.package in
           let fit = each_getD price_fits c.args.prices.now i (pos 0) (omega arith) c.requires.prices_fit in
           let stored = price-stored price fit in
           let past : i ≡ i + 1 - 1 = omega arith in
