@@ -1,4 +1,5 @@
 // The fields of each kind at both ends of their ranges, and one past them.
+use crate::worked::LEAST;
 use offers::records::{Band, Exclusion, Limit, Package, Pair, Record};
 use std::process::Abort;
 use std::test::*;
@@ -22,26 +23,10 @@ fn check_faults<R: Record>(rt: &impl Abort, rows: &[(R, u8)]) -> Result<(), Fail
     Ok(())
 }
 
-// Every field at its least.
-const PACKAGE: Package = Package {
-    power: 0,
-    energy: 0,
-    certificates: 0,
-    nameplate: 0,
-    price: 0,
-    power_zone: 1,
-    interconnection_zone: 1,
-    export_zone: 1,
-    price_zone: 1,
-    date: 0,
-    unqualified: 0,
-    dollar: 0,
-};
-
 #[test]
 fn quantities_of_a_package(rt: HostRuntime) -> Result<(), Fail> {
     check_fields!(
-        rt, Package, PACKAGE,
+        rt, Package, LEAST,
         power: 0 => 0, 10_000 => 0, 10_001 => 2;
         energy: 0 => 0, 10_000_000 => 0, 10_000_001 => 3;
         certificates: 0 => 0, 10_000_000 => 0, 10_000_001 => 4;
@@ -53,7 +38,7 @@ fn quantities_of_a_package(rt: HostRuntime) -> Result<(), Fail> {
 #[test]
 fn zones_of_a_package(rt: HostRuntime) -> Result<(), Fail> {
     check_fields!(
-        rt, Package, PACKAGE,
+        rt, Package, LEAST,
         power_zone: 0 => 7, 1 => 0, 3 => 0, 4 => 7;
         interconnection_zone: 0 => 8, 1 => 0, 16 => 0, 17 => 8;
         export_zone: 0 => 9, 1 => 0, 16 => 0, 17 => 9;
@@ -64,7 +49,7 @@ fn zones_of_a_package(rt: HostRuntime) -> Result<(), Fail> {
 #[test]
 fn choices_of_a_package(rt: HostRuntime) -> Result<(), Fail> {
     check_fields!(
-        rt, Package, PACKAGE,
+        rt, Package, LEAST,
         date: 0 => 0, 2 => 0, 3 => 11;
         unqualified: 0 => 0, 1 => 0, 2 => 12;
         dollar: 0 => 0, 1 => 0, 2 => 13;

@@ -1,5 +1,5 @@
 // Sheets: every offence at several places, their order, the fullest sheet, and how a withdrawal travels.
-use crate::worked::refusal;
+use crate::worked::{LEAST, refusal};
 use offers::memory::{Kind, Offer, Offers};
 use offers::records::{Band, Exclusion, Limit, Package, Pair};
 use offers::refusals::{Code, Refusal};
@@ -10,18 +10,9 @@ use std::process::Abort;
 use std::test::*;
 
 const PACKAGE: Package = Package {
-    power: 0,
     energy: 10,
-    certificates: 0,
-    nameplate: 0,
     price: 20,
-    power_zone: 1,
-    interconnection_zone: 1,
-    export_zone: 1,
-    price_zone: 1,
-    date: 0,
-    unqualified: 0,
-    dollar: 0,
+    ..LEAST
 };
 
 const BAND: Band = Band {

@@ -14,6 +14,22 @@ pub fn refusal(code: Code, tag: u8, number: u8, field: u8, byte: usize) -> Refus
     }
 }
 
+// A package of which each field has its least value.
+pub const LEAST: Package = Package {
+    power: 0,
+    energy: 0,
+    certificates: 0,
+    nameplate: 0,
+    price: 0,
+    power_zone: 1,
+    interconnection_zone: 1,
+    export_zone: 1,
+    price_zone: 1,
+    date: 0,
+    unqualified: 0,
+    dollar: 0,
+};
+
 // A package with all zones 1, and nothing dated, unqualified or in dollars.
 pub fn package(power: u32, energy: u32, certificates: u32, price: u64) -> Package {
     Package {
@@ -22,13 +38,7 @@ pub fn package(power: u32, energy: u32, certificates: u32, price: u64) -> Packag
         certificates,
         nameplate: power,
         price,
-        power_zone: 1,
-        interconnection_zone: 1,
-        export_zone: 1,
-        price_zone: 1,
-        date: 0,
-        unqualified: 0,
-        dollar: 0,
+        ..LEAST
     }
 }
 

@@ -1,6 +1,6 @@
 -- The laws of the five kinds of record.
 use Rattle.std.specs.Prelude.{◌≡◌, ℕ, ◌<◌, Bool, true, false, cond, nat_le, ◌&&◌, ◌==◌, Decides, refl}
-use Rattle.std.proofs.Common.{ap, arith, rules}
+use Rattle.std.proofs.Common.{arith, rules}
 use Rattle.std.proofs.lemmas.Bool.{and_parts, leb-true}
 use Rattle.std.proofs.lemmas.Bool.Decides.{Decides-and, Decides-eqb}
 use Rattle.offers.specs.declared.records.Package.{Package}
@@ -54,5 +54,22 @@ package_known p q =
     Decides-and (p.price_zone == q.price_zone) _ (Decides-eqb p.price_zone q.price_zone) (
     Decides-and (p.date == q.date) _ (Decides-eqb p.date q.date) (
     Decides-and (p.unqualified == q.unqualified) _ (Decides-eqb p.unqualified q.unqualified) (
-    Decides-eqb p.dollar q.dollar))))))))))) in
-    (λ e. let same = each.0 e in λ i. record { power = same.0 i; energy = same.1.0 i; certificates = same.1.1.0 i; nameplate = same.1.1.1.0 i; price = same.1.1.1.1.0 i; power_zone = same.1.1.1.1.1.0 i; interconnection_zone = same.1.1.1.1.1.1.0 i; export_zone = same.1.1.1.1.1.1.1.0 i; price_zone = same.1.1.1.1.1.1.1.1.0 i; date = same.1.1.1.1.1.1.1.1.1.0 i; unqualified = same.1.1.1.1.1.1.1.1.1.1.0 i; dollar = same.1.1.1.1.1.1.1.1.1.1.1 i }, λ e. each.1 (let back = λ (f : Package → ℕ). ap f e in (back (λ r. r.power), (back (λ r. r.energy), (back (λ r. r.certificates), (back (λ r. r.nameplate), (back (λ r. r.price), (back (λ r. r.power_zone), (back (λ r. r.interconnection_zone), (back (λ r. r.export_zone), (back (λ r. r.price_zone), (back (λ r. r.date), (back (λ r. r.unqualified), back (λ r. r.dollar))))))))))))))
+    Decides-eqb p.dollar q.dollar))))))))))) in (
+      λ e.
+          let same = each.0 e in
+          λ i. record {
+            power = same.0 i;
+            energy = same.1.0 i;
+            certificates = same.1.1.0 i;
+            nameplate = same.1.1.1.0 i;
+            price = same.1.1.1.1.0 i;
+            power_zone = same.1.1.1.1.1.0 i;
+            interconnection_zone = same.1.1.1.1.1.1.0 i;
+            export_zone = same.1.1.1.1.1.1.1.0 i;
+            price_zone = same.1.1.1.1.1.1.1.1.0 i;
+            date = same.1.1.1.1.1.1.1.1.1.0 i;
+            unqualified = same.1.1.1.1.1.1.1.1.1.1.0 i;
+            dollar = same.1.1.1.1.1.1.1.1.1.1.1 i;
+          },
+      λ e. each.1 (rw e (search rules)),
+    )

@@ -30,6 +30,7 @@ date_byte Standard = 0
 date_byte Before = 1
 date_byte After = 2
 
+-- what is made of a byte that stands for a case or for none
 abbrev pub known : {C : Type 0} → ℕ → Option C → Result C Unknown
 known byte (Some c) = Ok c
 known byte None = Err (record { 0 = byte })

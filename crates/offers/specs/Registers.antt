@@ -14,6 +14,7 @@ pub record Outcome (A : Type 0) : Type 0 where
   pub answer : Result Unit Refusal
   pub left : A
 
+-- whether nothing stands there
 abbrev pub is_vacant : {R : Type 0} → Entry R → Bool
 is_vacant Vacant = true
 is_vacant (Open r) = false

@@ -42,7 +42,7 @@ pub fn sheet_length(offers: &Offers) -> usize
 }
 
 // The bytes of a register's fields. That a content's length fits its two bytes is asked here and twice below: a law of `Record` for it
-// would be one more thing to show of every kind, where the laws that there are took the place of contracts.
+// would ask one more thing of whoever adds a kind.
 fn register_length<R: Record>(entries: &[Entry<R>]) -> usize
     requires few { length entries.now ≤ 64 }
     requires short { content_size R.Record.layout < 2 ^ 16 }
