@@ -1,6 +1,7 @@
-pub mod Zeros
-pub mod Placings
-pub mod Leadings
-pub mod Reported
-pub mod Cleared
-pub mod Printed
+pub mod Entered
+pub mod Dockets
+pub mod Searches
+pub mod Histories
+pub mod Runs
+pub mod Fairness
+pub mod Kept

@@ -1,3 +1,6 @@
-pub mod Search
-pub mod Clearing
-pub mod Text
+pub mod Model
+pub mod Promises
+pub mod Views
+pub mod Requests
+pub mod Replays
+pub mod Rules

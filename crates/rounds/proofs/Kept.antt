@@ -1,0 +1,64 @@
+-- The promise of a run with one call more, by what the call left.
+use Rattle.std.proofs.Common.{◌≡◌, List, [], ◌∷◌, ◌++◌, map, sym, ap, ◌∙◌, subst}
+use Rattle.std.specs.List.{AllByRecursion as Every}
+use Rattle.offers.specs.declared.records.Package.{Package}
+use Rattle.pricing.specs.Prices.{Bounded}
+use Rattle.clearing.specs.Closing.{Meaning}
+use Rattle.bounds.specs.Blocks.{Answers, SoundRule}
+use Rattle.rounds.specs.declared.requests.Request.{Request}
+use Rattle.rounds.specs.declared.requests.Request.TheVariants as request
+use Rattle.rounds.specs.Requests.{call_of}
+use Rattle.rounds.specs.Model.{after, Stepped, Call, Model, step}
+use Rattle.rounds.specs.Promises.{LawfulCall, Promise, Promised, Fair}
+use Rattle.rounds.specs.Views.{Continues, Serves}
+use Rattle.rounds.proofs.Histories.{after_more}
+use Rattle.rounds.proofs.Runs.{promised}
+use Rattle.rounds.proofs.Fairness.{fair_step}
+
+lawful_more : (calls : List Call) (call : Call) → Every LawfulCall calls → LawfulCall call → Every LawfulCall (calls ++ call ∷ [])
+lawful_more [] call laws law = (law, tt)
+lawful_more (x ∷ xs) call laws law = (laws.0, lawful_more xs call laws.1 law)
+
+-- a call that gives what the plain round's step gives continues every run
+continues : (before : Model) (call : Call) (s : Stepped) → LawfulCall call → s ≡ step before call → Continues before call s
+continues before call s law e calls laws at =
+    let same : s ≡ step (after calls) call = e ∙ sym (ap (λ (m : Model). step m call) at) in
+    let left : s.left ≡ after (calls ++ call ∷ []) = ap (λ (x : Stepped). x.left) same ∙ sym (after_more calls call) in
+    record {
+      left = left;
+      answer = ap (λ (x : Stepped). x.answer) same;
+      promise = subst (Promise (calls ++ call ∷ [])) (sym left) (promised (calls ++ call ∷ []) (lawful_more calls call laws law));
+    }
+
+-- and so it owes nothing more
+pub serves : (before : Model) (call : Call) (s : Stepped) → LawfulCall call → s ≡ step before call → Serves before call s
+serves before call s law e = record { step = e; fair = subst (Fair before call) (sym e) (fair_step before call); run = continues before call s law e }
+
+module _ {P B : Type 0} (meaning : P → Meaning) (answers : B → Answers) (bounded : (rule : P) (p : Package) → Bounded (meaning rule p)) (sound : (rule : B) → SoundRule (answers rule)) where
+  -- a request is a lawful call, since rules show their laws
+  pub lawful_request : (r : Request P B) → LawfulCall (call_of meaning answers r)
+  lawful_request (request.File n offer) = tt
+  lawful_request (request.Withdraw k n) = tt
+  lawful_request (request.CatchUp sheet) = tt
+  lawful_request (request.Close rule) = bounded rule
+  lawful_request (request.Search rule count) = sound rule
+  lawful_request request.Reopen = tt
+  lawful_request (request.ReadAward lent) = tt
+  lawful_request (request.WriteSheet buffer) = tt
+
+  -- and so are those of a run
+  pub lawful_requests : (requests : List (Request P B)) → Every LawfulCall (map (call_of meaning answers) requests)
+  lawful_requests [] = tt
+  lawful_requests (r ∷ rs) = (lawful_request r, lawful_requests rs)
+
+-- the first of lawful calls are lawful
+lawful_first : (before later : List Call) → Every LawfulCall (before ++ later) → Every LawfulCall before
+lawful_first [] later laws = tt
+lawful_first (call ∷ before) later laws = (laws.0, lawful_first before later laws.1)
+
+-- the promise of a whole run
+pub promised_all : (calls : List Call) → Every LawfulCall calls → Promised calls
+promised_all calls laws = record {
+  kept = λ before later e. promised before (lawful_first before later (subst (λ (xs : List Call). Every LawfulCall xs) e laws));
+  fair = λ before later call e. fair_step (after before) call;
+}

@@ -1,7 +1,0 @@
--- `zero_digits`: a count of choices of a docket ends in no more zeros than a docket has packages.
-use Rattle.std.proofs.Common.{arith}
-use Rattle.rounds.proofs.Zeros.{trailing_small, power-smaller}
-use Rattle.rounds.proofs.search.zero_digits.Goals as goal
-
-pub returns-clause-value : goal.returns-clause-value
-returns-clause-value c = λ some most. omega (arith, power-smaller _ 41 _ (trailing_small 64 c.args.number some) (omega arith))

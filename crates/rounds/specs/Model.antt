@@ -1,0 +1,184 @@
+-- A plain round, and what each call does to it: fed only the calls' arguments and the rules' meanings. Assumes nothing.
+use Rattle.std.specs.Prelude.{ℕ, Bool, true, false, cond, ◌&&◌, ◌||◌, List, [], ◌∷◌, ◌++◌, length, drop, ℤ, Ok, Err, Result, is_ok, nat_le}
+use Rattle.offers.specs.declared.memory.Kind.{Kind}
+use Rattle.offers.specs.declared.memory.Offer.{Offer}
+use Rattle.offers.specs.declared.refusals.Code.TheVariants.{NoRoom, StepsOutside}
+use Rattle.offers.specs.declared.refusals.Refusal.{Refusal}
+use Rattle.offers.specs.Fields.{within}
+use Rattle.offers.specs.Memory.{Entries, vacant, file_offer, withdraw_offer}
+use Rattle.offers.specs.Refusals.{refused_at}
+use Rattle.offers.specs.Registers.{Outcome}
+use Rattle.sheets.specs.Reading.{catching_up}
+use Rattle.sheets.specs.Writing.{write_sheet}
+use Rattle.clearing.specs.Closing.{Meaning, closing}
+use Rattle.clearing.specs.Lawful.{View, nothing_open}
+use Rattle.clearing.specs.Choices.{taken, supply}
+use Rattle.clearing.specs.Sales.{sale_of}
+use Rattle.clearing.specs.Tallies.{row}
+use Rattle.bounds.specs.Blocks.{Answers}
+use Rattle.rounds.specs.declared.awarded_round.Award.{Award}
+use Rattle.search.specs.Search.{Standing, start, finished, steps}
+
+-- what a caller may ask of a round
+pub data Call : Type 0 where
+  File : ℕ → Offer → Call
+  Withdraw : Kind → ℕ → Call
+  -- with the bytes of a sheet
+  CatchUp : List ℕ → Call
+  -- with a price rule's meaning
+  Close : Meaning → Call
+  -- with a bounding rule's meaning, and a count of steps
+  Search : Answers → ℕ → Call
+  Reopen : Call
+  -- with the row that is lent
+  ReadAward : List ℕ → Call
+  -- with the buffer that is lent
+  WriteSheet : List ℕ → Call
+
+-- what it is answered
+pub data Answer : Type 0 where
+  Done : Result Unit Refusal → Answer
+  -- choices settled, and the leader's surplus
+  Found : Result (ℕ × ℤ) Refusal → Answer
+  Reopened : Answer
+  -- the award, and the row after the call
+  Awarded : Result Award Refusal → List ℕ → Answer
+  -- the sheet's length, and the buffer after the call
+  Written : Result ℕ Refusal → List ℕ → Answer
+  -- a call that this state of a round does not take
+  NotTaken : Answer
+
+-- an answer without a code
+abbrev pub accepted : Answer → Bool
+accepted (Done r) = is_ok r
+accepted (Found r) = is_ok r
+accepted Reopened = true
+accepted (Awarded r row) = is_ok r
+accepted (Written r buffer) = is_ok r
+accepted NotTaken = false
+
+-- what state a round is in: open, or with a docket and where its search stands
+pub data State : Type 0 where
+  IsOpen : State
+  IsClosed : View → Standing → State
+  IsAwarded : View → Standing → State
+
+pub record Model : Type 0 where
+  pub entries : Entries
+  pub state : State
+
+abbrev pub model : Entries → State → Model
+model entries state = record { entries = entries; state = state }
+
+-- what a call leaves, and what it answers
+pub record Stepped : Type 0 where
+  pub left : Model
+  pub answer : Answer
+
+-- an answer that leaves all as it is
+abbrev pub told : Entries → State → Answer → Stepped
+told entries state answer = record { left = model entries state; answer = answer }
+
+-- filing, withdrawing or catching up
+abbrev pub entered : Outcome Entries → Stepped
+entered o = record { left = model o.left IsOpen; answer = Done o.answer }
+
+-- a closing makes the docket, and choice 0 is settled and leads
+abbrev pub closed_state : Result Unit Refusal → View → State
+closed_state (Ok done) v = IsClosed v start
+closed_state (Err e) v = IsOpen
+
+abbrev pub closed : Entries → Outcome View → Stepped
+closed entries o = record { left = model entries (closed_state o.answer o.left); answer = Done o.answer }
+
+-- a search that ends finished makes the award
+abbrev pub searched_state : View → Standing → State
+searched_state v at = cond (finished v at) (IsAwarded v at) (IsClosed v at)
+
+abbrev pub searched : Entries → View → Standing → Stepped
+searched entries v at = record { left = model entries (searched_state v at); answer = Found (Ok (at.settled, at.surplus)) }
+
+-- what the packages that a choice takes supply, market m at place m - 1
+abbrev pub supplies : View → ℕ → List ℕ
+supplies v choice = row (λ m. supply m (taken v.packages choice)) 1 5
+
+-- what each band is sold of a choice, by offer number
+abbrev pub sold_row : View → ℕ → List ℕ
+sold_row v choice = row (sale_of v.bands (supplies v choice)) 1 64
+
+-- the leader is the award; the row has 64 places
+abbrev pub award : View → Standing → List ℕ → Answer
+award v at lent =
+    cond (nat_le 64 (length lent))
+    (Awarded (Ok (record { choice = at.leader; surplus = at.surplus })) (sold_row v at.leader ++ drop 64 lent))
+    (Awarded (Err (refused_at NoRoom 0 0 0)) lent)
+
+abbrev pub written : Entries → List ℕ → Answer
+written entries buffer = Written (write_sheet entries buffer).answer (write_sheet entries buffer).buffer
+
+-- One call on a round with these entries, in this state.
+abbrev pub step_in : Entries → State → Call → Stepped
+step_in all IsOpen (File n offer) = entered (file_offer all n offer)
+step_in all IsOpen (Withdraw k n) = entered (withdraw_offer all k n)
+step_in all IsOpen (CatchUp sheet) = entered (catching_up all sheet)
+step_in all IsOpen (Close price) = closed all (closing nothing_open all price)
+step_in all (IsClosed v at) (Search rule count) =
+    cond (within 1 1000000 count) (searched all v (steps rule v count at)) (told all (IsClosed v at) (Found (Err (refused_at StepsOutside 0 0 0))))
+step_in all (IsClosed v at) Reopen = told all IsOpen Reopened
+step_in all (IsAwarded v at) Reopen = told all IsOpen Reopened
+step_in all (IsAwarded v at) (ReadAward lent) = told all (IsAwarded v at) (award v at lent)
+step_in all state (WriteSheet buffer) = told all state (written all buffer)
+step_in all state call = told all state NotTaken
+
+abbrev pub step : Model → Call → Stepped
+step m call = step_in m.entries m.state call
+
+-- a round begins open and vacant
+abbrev pub beginning : Model
+beginning = model vacant IsOpen
+
+-- calls one after another, each on what the one before it left
+abbrev pub after_from : Model → List Call → Model
+after_from m [] = m
+after_from m (call ∷ calls) = after_from (step m call).left calls
+
+abbrev pub after : List Call → Model
+after calls = after_from beginning calls
+
+-- what calls are answered, each on what the one before it left
+abbrev pub answers_from : Model → List Call → List Answer
+answers_from m [] = []
+answers_from m (call ∷ calls) = let s : Stepped = step m call in s.answer ∷ answers_from s.left calls
+
+abbrev pub answers : List Call → List Answer
+answers calls = answers_from beginning calls
+
+-- where a round stands, without its docket
+pub data Stage : Type 0 where
+  AtOpen : Stage
+  AtClosed : Standing → Stage
+  AtAwarded : Standing → Stage
+
+abbrev pub stage_in : State → Stage
+stage_in IsOpen = AtOpen
+stage_in (IsClosed v at) = AtClosed at
+stage_in (IsAwarded v at) = AtAwarded at
+
+-- what a call is answered, and the entries and where the round stands right after it
+pub record Moment : Type 0 where
+  pub answer : Answer
+  pub entries : Entries
+  pub stage : Stage
+
+abbrev pub moment : Stepped → Moment
+moment s = record { answer = s.answer; entries = s.left.entries; stage = stage_in s.left.state }
+
+-- the moments of a run, one after each call
+abbrev pub moments_from : Model → List Call → List Moment
+moments_from m [] = []
+moments_from m (call ∷ calls) = moment (step m call) ∷ moments_from (step m call).left calls
+
+-- one of the calls passes a test and is accepted
+abbrev pub some_accepted : (Call → Bool) → Model → List Call → Bool
+some_accepted test m [] = false
+some_accepted test m (call ∷ calls) = (test call && accepted (step m call).answer) || some_accepted test (step m call).left calls

@@ -1,0 +1,76 @@
+-- What the rounds that callers hold are as plain rounds, and what calls give back. Assumes nothing.
+use Rattle.std.specs.Prelude.{◌<◌, ◌≤◌, ◌≡◌, ℕ, List, ◌∷◌, [], ◌++◌, replicate, Ok, Err, Result}
+use Rattle.std.specs.List.{AllByRecursion as Every}
+use Rattle.offers.specs.declared.refusals.Refusal.{Refusal}
+use Rattle.offers.specs.Memory.{held}
+use Rattle.clearing.specs.Lawful.{View, view, nothing_open}
+use Rattle.bounds.specs.Blocks.{Answers}
+use Rattle.search.specs.declared.positions.Position.{Position}
+use Rattle.search.specs.Search.{standing, left}
+use Rattle.rounds.specs.declared.open_round.OpenRound.{OpenRound}
+use Rattle.rounds.specs.declared.closed_round.ClosedRound.{ClosedRound}
+use Rattle.rounds.specs.declared.awarded_round.AwardedRound.{AwardedRound}
+use Rattle.rounds.specs.declared.closed_round.Searched.{Searched}
+use Rattle.rounds.specs.declared.closed_round.Searched.TheVariants as searched
+use Rattle.rounds.specs.Model.{step, Call, Search, Answer, State, IsOpen, IsClosed, IsAwarded, Model, model, Stepped, Done, after_from, after}
+use Rattle.rounds.specs.Promises.{LawfulCall, Promise, Fair}
+
+abbrev pub of_open : OpenRound → Model
+of_open r = model (held r.offers) IsOpen
+
+abbrev pub of_closed : ClosedRound → Model
+of_closed r = model (held r.offers) (IsClosed (view r.docket) (standing r.at))
+
+abbrev pub of_awarded : AwardedRound → Model
+of_awarded r = model (held r.offers) (IsAwarded (view r.docket) (standing r.at))
+
+abbrev pub of_searched : Searched → Model
+of_searched (searched.Closed r) = of_closed r
+of_searched (searched.Awarded r) = of_awarded r
+
+-- the docket of a state, where it has one
+abbrev pub docket_in : State → View
+docket_in IsOpen = nothing_open
+docket_in (IsClosed docket at) = docket
+docket_in (IsAwarded docket at) = docket
+
+-- what a call left and answered
+abbrev pub gave : Model → Answer → Stepped
+gave left answer = record { left = left; answer = answer }
+
+-- a closing gives a closed round, or the open one back with the refusal
+abbrev pub gave_closing : Result ClosedRound (OpenRound × Refusal) → Stepped
+gave_closing (Ok r) = gave (of_closed r) (Done (Ok tt))
+gave_closing (Err e) = gave (of_open e.0) (Done (Err e.1))
+
+-- What one call more adds to a run: the plain round comes to the same, and the promise holds of the round.
+pub record OneMore (calls : List Call) (call : Call) (s : Stepped) : Type 0 where
+  pub left : s.left ≡ after (calls ++ call ∷ [])
+  pub answer : s.answer ≡ (step (after calls) call).answer
+  pub promise : Promise (calls ++ call ∷ []) s.left
+
+-- So it is of every run of calls with lawful rules that led to the round.
+abbrev pub Continues : Model → Call → Stepped → Type 0
+Continues before call s = (calls : List Call) → Every LawfulCall calls → after calls ≡ before → OneMore calls call s
+
+-- What every call of a round owes, of the round before it and of what it gave back.
+pub record Serves (before : Model) (call : Call) (s : Stepped) : Type 0 where
+  -- answer, next state and every buffer are those of the plain round
+  pub step : s ≡ step before call
+  -- where it is not accepted, all stays as it was
+  pub fair : Fair before call s
+  -- and what is promised of a run that led to the round is promised of it with this call added
+  pub run : Continues before call s
+
+-- a search that has not finished leaves less to do
+abbrev pub Falls : Searched → Position → Type 0
+Falls (searched.Closed r) from = left r.at < left from
+Falls (searched.Awarded r) from = Unit {0}
+
+-- A closed round is searched to its end: so many accepted searches under a rule, of so many steps each, lead to what is left.
+pub record Finishes (before : Model) (rule : Answers) (left : Model) : Type 0 where
+  pub searches : ℕ
+  pub steps : ℕ
+  pub some : 1 ≤ steps
+  pub most : steps ≤ 1000000
+  pub is : left ≡ after_from before (replicate searches (Search rule steps))

@@ -1,0 +1,81 @@
+// An awarded round: its search has settled every choice, and the leader is the award.
+ghost use Rattle.std.specs.Prelude.{◌≡◌};
+
+use crate::open_round::OpenRound;
+use clearing::dockets::Docket;
+use clearing::sales::sales_row;
+use clearing::tallies::Tally;
+use offers::memory::Offers;
+use offers::refusals::{Code, Refusal};
+use search::positions::Position;
+use sheets::writing::write_sheet;
+
+// What a round awards: a choice of the open packages, and its surplus in pesos.
+#[derive(Clone, Copy, PartialEq, Eq, Debug)]
+pub struct Award {
+    pub choice: u64,
+    pub surplus: i64,
+}
+
+#[derive(Drop)]
+pub struct AwardedRound {
+    pub(crate) offers: Offers,
+    pub(crate) docket: Docket,
+    pub(crate) at: Position,
+}
+
+impl AwardedRound {
+    ghost use Rattle.clearing.specs.Lawful.{view};
+    ghost use Rattle.rounds.specs.Model.{ReadAward, Reopen, WriteSheet, Awarded, Reopened, Written, step};
+    ghost use Rattle.rounds.specs.Views.{of_open, of_awarded, gave, docket_in, Serves};
+
+    // The award, with what each band is sold, by offer number, in the row's first 64 places; a longer row keeps its rest.
+    pub fn award(&self, row: &mut [u64]) -> Result<Award, Refusal>
+        ensures { Serves (of_awarded self.now) (ReadAward row.old) (gave (of_awarded self.now) (Awarded result row.new)) }
+    {
+        if row.len() < 64 {
+            return Err(Refusal::of(Code::NoRoom));
+        }
+        let taken = Tally::of(&self.docket, self.at.leader);
+        let sold = sales_row(&self.docket, &taken.supply);
+        row[..64].copy_from_slice(&sold);
+        Ok(leader(self.at))
+    }
+
+    // What was open at the closing.
+    pub fn docket(&self) -> &Docket
+        ensures { view result.now ≡ docket_in (of_awarded self.now).state }
+    {
+        &self.docket
+    }
+
+    // Writes the sheet of the offers into the buffer's first bytes, and gives its length.
+    pub fn write_sheet(&self, buffer: &mut [u8]) -> Result<usize, Refusal>
+        ensures { Serves (of_awarded self.now) (WriteSheet buffer.old) (gave (of_awarded self.now) (Written result buffer.new)) }
+    {
+        write_sheet(&self.offers, buffer)
+    }
+
+    // Drops the docket and the award.
+    pub fn reopen(self) -> OpenRound
+        ensures { Serves (of_awarded self) Reopen (gave (of_open result) Reopened) }
+    {
+        let AwardedRound {
+            offers,
+            mut docket,
+            at: _,
+        } = self;
+        docket.clear();
+        OpenRound { offers, docket }
+    }
+}
+
+// The leader as an award. A function, so that a proof can name it.
+fn leader(at: Position) -> Award
+    ensures { result ≡ record { choice = at.leader; surplus = at.surplus } }
+{
+    Award {
+        choice: at.leader,
+        surplus: at.surplus,
+    }
+}

@@ -1,0 +1,45 @@
+// A search to its end, with word of how far it is.
+ghost use Rattle.std.specs.Prelude.{◌≤◌};
+ghost use Rattle.rounds.specs.Views.{of_closed, of_awarded, Finishes};
+
+use crate::awarded_round::AwardedRound;
+use crate::closed_round::{ClosedRound, Searched};
+use bounds::blocks::BoundingRule;
+use search::steps::choices;
+
+// Who wants to know how far a search is. A closure in its place would have `finish` require that it may be called.
+pub trait Progress {
+    // Choices settled of all, and the surplus of the leader in pesos.
+    fn note(&mut self, settled: u64, choices: u64, surplus: i64);
+}
+
+// Searches by a rule until every choice is settled, and tells after each million of steps.
+pub fn finish<B: BoundingRule, P: Progress>(
+    round: ClosedRound,
+    rule: &mut B,
+    progress: &mut P,
+) -> AwardedRound
+    ensures { Finishes (of_closed round) (B.BoundingRule.answers rule.old) (of_awarded result) }
+{
+    let all = choices(&round.docket);
+    let steps = steps_a_turn();
+    let mut closed = round;
+    'turns: loop {
+        let (next, found) = closed.search(rule, steps);
+        if let Ok((settled, surplus)) = found {
+            progress.note(settled, all, surplus);
+        }
+        match next {
+            Searched::Closed(still) => closed = still,
+            Searched::Awarded(done) => return done,
+        }
+    }
+}
+
+// Steps between two words. A function, since a number in its place would be counted down in proofs.
+fn steps_a_turn() -> u32
+    ensures some { 1 ≤ result }
+    ensures most { result ≤ 1000000 }
+{
+    1_000_000
+}

@@ -1,0 +1,82 @@
+// Whole runs of requests, from an open and vacant round.
+ghost use Rattle.std.specs.Prelude.{◌≡◌, map, IfOk};
+ghost use Rattle.offers.specs.Memory.{held};
+ghost use Rattle.rounds.specs.Model.{stage_in};
+ghost use Rattle.rounds.specs.Requests.{of_round, call_of};
+ghost use Rattle.rounds.specs.Replays.{of_stage, Replays};
+
+use crate::open_round::OpenRound;
+use crate::requests::{Reply, Request, Round, serve};
+use bounds::blocks::BoundingRule;
+use offers::memory::Offers;
+use pricing::rules::PriceRule;
+use search::positions::Position;
+use std::alloc::{AllocError, Global};
+
+// Where a round stands between two calls.
+#[derive(Clone, Copy)]
+pub enum Stage {
+    Open,
+    Closed(Position),
+    Awarded(Position),
+}
+
+// A moment of a run: what a request was answered, and the round right after it.
+#[derive(Drop)]
+pub struct Moment {
+    pub reply: Reply,
+    pub offers: Offers,
+    pub stage: Stage,
+}
+
+// A whole run: the round in the end, and every moment of it.
+#[derive(Drop)]
+pub struct Run {
+    pub round: Round,
+    pub moments: Vec<Moment>,
+}
+
+impl Round {
+    // What the round holds.
+    pub fn offers(&self) -> Offers
+        ensures { held result ≡ (of_round self.now).entries }
+    {
+        match self {
+            Round::Open(round) => round.offers,
+            Round::Closed(round) => round.offers,
+            Round::Awarded(round) => round.offers,
+        }
+    }
+
+    // Where it stands.
+    pub fn stage(&self) -> Stage
+        ensures { of_stage result ≡ stage_in (of_round self.now).state }
+    {
+        match self {
+            Round::Open(_) => Stage::Open,
+            Round::Closed(round) => Stage::Closed(round.at),
+            Round::Awarded(round) => Stage::Awarded(round.at),
+        }
+    }
+}
+
+// Makes a whole run from an open and vacant round, and keeps every moment of it.
+pub fn replay<P: PriceRule + Drop, B: BoundingRule + Drop>(
+    heap: Global,
+    requests: Vec<Request<P, B>>,
+) -> Result<Run, AllocError>
+    ensures { IfOk result (Replays (map (call_of P.PriceRule.meaning B.BoundingRule.answers) requests.items)) }
+{
+    let mut round = Round::Open(OpenRound::new(heap)?);
+    let mut moments = Vec::new(heap);
+    for request in requests {
+        let (next, reply) = serve(round, request);
+        round = next;
+        moments.push(Moment {
+            reply,
+            offers: round.offers(),
+            stage: round.stage(),
+        })?;
+    }
+    Ok(Run { round, moments })
+}

@@ -1,0 +1,50 @@
+// Different rules in one run.
+ghost use Rattle.std.specs.Prelude.{◌≡◌, ℕ, ℤ, Result as Answer};
+ghost use Rattle.rounds.specs.Rules.{either_answers, either_sound, either_meaning, either_level, either_bounded};
+
+use bounds::blocks::{Block, BoundingRule};
+use clearing::dockets::Docket;
+use offers::records::Package;
+use pricing::rules::{Fault, PriceRule};
+
+// One of two rules. A run of requests has one type of rule; with this it has as many as it wants.
+#[derive(Clone, Copy)]
+pub enum OneOf<P, Q> {
+    First(P),
+    Second(Q),
+}
+
+impl<P: BoundingRule, Q: BoundingRule> BoundingRule for OneOf<P, Q> {
+    ghost answers = { either_answers P.BoundingRule.answers Q.BoundingRule.answers };
+
+    ghost sound = { either_sound P.BoundingRule.answers Q.BoundingRule.answers P.BoundingRule.sound Q.BoundingRule.sound };
+
+    fn consult(&mut self, docket: &Docket, block: Block) -> Option<i64> {
+        match self {
+            OneOf::First(rule) => rule.consult(docket, block),
+            OneOf::Second(rule) => rule.consult(docket, block),
+        }
+    }
+}
+
+impl<P: PriceRule, Q: PriceRule> PriceRule for OneOf<P, Q> {
+    ghost meaning = { either_meaning P.PriceRule.meaning Q.PriceRule.meaning };
+
+    ghost level = { either_level P.PriceRule.level Q.PriceRule.level };
+
+    ghost bounded = { either_bounded P.PriceRule.meaning Q.PriceRule.meaning P.PriceRule.bounded Q.PriceRule.bounded };
+
+    fn price(&mut self, package: &Package) -> Result<i64, Fault> {
+        match self {
+            OneOf::First(rule) => rule.price(package),
+            OneOf::Second(rule) => rule.price(package),
+        }
+    }
+
+    fn depth(&self) -> u8 {
+        match self {
+            OneOf::First(rule) => rule.depth(),
+            OneOf::Second(rule) => rule.depth(),
+        }
+    }
+}

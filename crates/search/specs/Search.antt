@@ -1,0 +1,82 @@
+-- The search: what holds wherever it stands, and how a step moves it. Assumes nothing.
+use Rattle.std.specs.Prelude.{◌≡◌, ℕ, zero, suc, ◌+◌, ◌-◌, ◌*◌, ◌^◌, ◌<◌, ◌≤◌, Bool, true, cond, ℤ, pos, Some, None, Option, ◌==◌, int_le, nat_lt}
+use Rattle.std.specs.Int.Count.{count_trailing_zeros}
+use Rattle.std.specs.Int.Signed.{lt_z}
+use Rattle.clearing.specs.Judging.{worth_of}
+use Rattle.clearing.specs.Lawful.{View, BestBelow, surplus, filled_sales, choices}
+use Rattle.bounds.specs.Blocks.{Span, Answers, InDocket}
+use Rattle.search.specs.declared.positions.Position.{Position}
+
+-- a number that falls with each step: more choices are settled, or the next block is half as long
+abbrev pub left : Position → ℕ
+left at = (2 ^ 41 - at.settled) * 64 + at.free
+
+-- Where a search stands, as plain numbers.
+pub record Standing : Type 0 where
+  pub settled : ℕ
+  pub free : ℕ
+  pub leader : ℕ
+  pub surplus : ℤ
+
+abbrev pub standing : Position → Standing
+standing at = record { settled = at.settled; free = at.free; leader = at.leader; surplus = at.surplus }
+
+-- the block that is next
+abbrev pub next_block : Standing → Span
+next_block at = record { first = at.settled; free = at.free }
+
+-- A search stands in a docket: some choices are settled and at most all, and while one is not, the next block is one of the docket's.
+pub record Placed (v : View) (at : Standing) : Type 0 where
+  pub some : 1 ≤ at.settled
+  pub most : at.settled ≤ choices v
+  pub block : at.settled < choices v → InDocket v (next_block at)
+
+-- The leader is the best of the settled choices, the earliest among equals, and its surplus with filled sales is known.
+pub record Leads (v : View) (at : Standing) : Type 0 where
+  pub best : BestBelow v at.settled at.leader
+  pub worth : at.surplus ≡ surplus v at.leader (filled_sales v at.leader)
+
+-- choice 0, which takes nothing, is settled and leads
+abbrev pub start : Standing
+start = record { settled = 1; free = 0; leader = 0; surplus = pos 0 }
+
+-- a block is not worth a look if it has no lawful choice, or none above the leader
+abbrev pub hopeless : Option ℤ → ℤ → Bool
+hopeless None surplus = true
+hopeless (Some cap) surplus = int_le cap surplus
+
+-- so many choices more are settled; the next block has a free digit for each zero that ends their count
+abbrev pub settle : Standing → ℕ → Standing
+settle at more = record {
+  settled = at.settled + more;
+  free = count_trailing_zeros 64 (at.settled + more);
+  leader = at.leader;
+  surplus = at.surplus;
+}
+
+-- the first half of the block is next
+abbrev pub halve : Standing → Standing
+halve at = record { settled = at.settled; free = at.free - 1; leader = at.leader; surplus = at.surplus }
+
+-- the next choice leads if it is lawful and worth more than the leader
+abbrev pub lead : Standing → Option ℤ → Standing
+lead at None = at
+lead at (Some worth) =
+    cond (lt_z at.surplus worth) (record { settled = at.settled; free = at.free; leader = at.settled; surplus = worth }) at
+
+-- One step: the rule is consulted on the next block, which is then skipped, halved, or, where it has one choice, tried.
+abbrev pub step : Answers → View → Standing → Standing
+step rule v at =
+    cond (hopeless (rule v (next_block at)) at.surplus) (settle at (2 ^ at.free))
+    (cond (nat_lt 0 at.free) (halve at) (settle (lead at (worth_of v at.settled)) 1))
+
+-- every choice is settled
+abbrev pub finished : View → Standing → Bool
+finished v at = at.settled == choices v
+
+-- so many steps, or fewer if it finishes before
+abbrev pub steps : Answers → View → ℕ → Standing → Standing
+steps rule v zero at = at
+steps rule v (suc count) at =
+    let rest : Standing = steps rule v count (step rule v at) in
+    cond (finished v at) at rest
