@@ -2,7 +2,7 @@
 use Rattle.std.proofs.Common.{ℕ, List, take}
 use Rattle.std.specs.declared.fmt.Formatter.{Formatter}
 use Rattle.std.specs.Fmt.{IsPlainFormatter, HasWritten}
-use Rattle.rounds.specs.Text.{lines_of}
+use Rattle.reports.specs.Text.{lines_of}
 
 -- where f is plain, g is f after the lines of the first i elements
 abbrev pub Lined : {W X : Type 0} → (W → List ℕ → W → Type 0) → (X → List ℕ) → List X → Formatter W → ℕ → Formatter W → Type 0

@@ -3,9 +3,9 @@ use Rattle.std.specs.Prelude.{ℕ, List, [], ◌∷◌, ◌++◌, vec_items, cod
 use Rattle.std.specs.List.{flat_map}
 use Rattle.std.specs.Fmt.{signed_decimal}
 use Rattle.offers.specs.Refusals.{code_number}
-use Rattle.rounds.specs.declared.report.RefusedSheet.{RefusedSheet}
-use Rattle.rounds.specs.declared.report.Report.{Report}
-use Rattle.rounds.specs.declared.report.Sold.{Sold}
+use Rattle.reports.specs.declared.report.RefusedSheet.{RefusedSheet}
+use Rattle.reports.specs.declared.report.Report.{Report}
+use Rattle.reports.specs.declared.report.Sold.{Sold}
 
 abbrev pub line_end : List ℕ
 line_end = 10 ∷ []

@@ -1,24 +1,17 @@
-// An award and its report, and what the program prints of it or of a refused sheet.
-ghost use Rattle.std.specs.Prelude.{◌≡◌, map, IfOk, Some};
+// The report of an award, and what is printed of it or of a refused sheet.
+ghost use Rattle.std.specs.Prelude.{◌≡◌, ◌∷◌, length, map, IfOk, Some};
 ghost use Rattle.clearing.specs.Choices.{taken};
 ghost use Rattle.clearing.specs.Lawful.{view};
-ghost use Rattle.rounds.specs.Clearing.{Reports, supplies, sold_line};
-ghost use Rattle.rounds.specs.Text.{report_text, refused_text};
+ghost use Rattle.rounds.specs.Views.{of_awarded};
+ghost use Rattle.reports.specs.Reports.{ReportsIn, sold_line};
+ghost use Rattle.reports.specs.Text.{report_text, refused_text};
 
-use crate::search::choices;
 use clearing::dockets::Docket;
-use clearing::sales::sales_row;
-use clearing::tallies::Tally;
 use offers::refusals::Refusal;
+use rounds::awarded_round::AwardedRound;
+use search::steps::choices;
 use std::alloc::{AllocError, Global};
 use std::fmt;
-
-// What a round awards: a choice of the open packages, and its surplus in pesos.
-#[derive(Clone, Copy)]
-pub struct Award {
-    pub choice: u64,
-    pub surplus: i64,
-}
 
 // What an open band is sold, by offer number, in its market's unit.
 #[derive(Clone, Copy, PartialEq, Eq, Debug)]
@@ -42,15 +35,20 @@ pub struct Report {
 pub struct RefusedSheet(pub Refusal);
 
 impl Report {
-    // The report of an award of a docket.
-    pub fn of(heap: Global, docket: &Docket, award: Award) -> Result<Report, AllocError>
-        ensures { IfOk result (Reports (view docket.now) award) }
+    // The report of an awarded round.
+    pub fn of(heap: Global, round: &AwardedRound) -> Result<Report, AllocError>
+        ensures { IfOk result (ReportsIn (of_awarded round.now).state) }
     {
+        let mut sold = [0u64; 64];
+        let Ok(award) = round.award(&mut sold) else {
+            unreachable!()
+        };
+        let docket = round.docket();
         Ok(Report {
             open: docket.packages.list.len(),
             choices: choices(docket),
             packages: taken_numbers(heap, docket, award.choice)?,
-            bands: sold_quantities(heap, docket, award.choice)?,
+            bands: sold_quantities(heap, docket, &sold)?,
             surplus: award.surplus,
         })
     }
@@ -66,12 +64,10 @@ fn taken_numbers(heap: Global, docket: &Docket, choice: u64) -> Result<Vec<u8>, 
         .collect(heap)
 }
 
-// What each open band is sold of what a choice supplies.
-fn sold_quantities(heap: Global, docket: &Docket, choice: u64) -> Result<Vec<Sold>, AllocError>
-    ensures { IfOk result (λ v. v.items ≡ map (sold_line (supplies (view docket.now) choice)) docket.now.bands.list.items) }
+// What each open band is sold, of a row by offer number.
+fn sold_quantities(heap: Global, docket: &Docket, row: &[u64; 64]) -> Result<Vec<Sold>, AllocError>
+    ensures { IfOk result (λ v. v.items ≡ map (sold_line row.now) docket.now.bands.list.items) }
 {
-    let taken = Tally::of(docket, choice);
-    let row = sales_row(docket, &taken.supply);
     docket
         .bands
         .list

@@ -1,7 +1,7 @@
 -- What the loops of `fmt` keep true: the lines of the packages or the bands so far are written.
-use Rattle.rounds.specs.Text.{package_line, band_line}
-use Rattle.rounds.proofs.Printed.{Lined}
-use Rattle.rounds.proofs.report.ReportDisplay.fmt.Given as goal
+use Rattle.reports.specs.Text.{package_line, band_line}
+use Rattle.reports.proofs.Printed.{Lined}
+use Rattle.reports.proofs.report.ReportDisplay.fmt.Given as goal
 
 abbrev pub invariant-loop-number : goal.invariant-loop-number
 invariant-loop-number g l = Lined g.W.Write.write_str_gives package_line l.number-items l.initial.f l.number-index l.f
