@@ -1,5 +1,5 @@
 -- The promise of a run with one call more, by what the call left.
-use Rattle.std.proofs.Common.{◌≡◌, List, [], ◌∷◌, ◌++◌, map, sym, ap, ◌∙◌, subst}
+use Rattle.std.proofs.Common.{◌≡◌, ℕ, zero, suc, List, [], ◌∷◌, ◌++◌, map, replicate, sym, ap, ◌∙◌, subst}
 use Rattle.std.specs.List.{AllByRecursion as Every}
 use Rattle.offers.specs.declared.records.Package.{Package}
 use Rattle.pricing.specs.Prices.{Bounded}
@@ -8,16 +8,16 @@ use Rattle.bounds.specs.Blocks.{Answers, SoundRule}
 use Rattle.rounds.specs.declared.requests.Request.{Request}
 use Rattle.rounds.specs.declared.requests.Request.TheVariants as request
 use Rattle.rounds.specs.Requests.{call_of}
-use Rattle.rounds.specs.Model.{after, Stepped, Call, Model, step}
+use Rattle.rounds.specs.Model.{beginning, after_from, after, Stepped, Call, Model, step}
 use Rattle.rounds.specs.Promises.{LawfulCall, Promise, Promised, Fair}
 use Rattle.rounds.specs.Views.{Continues, Serves}
-use Rattle.rounds.proofs.Histories.{after_more}
+use Rattle.rounds.proofs.Histories.{after_append, after_more}
 use Rattle.rounds.proofs.Runs.{promised}
 use Rattle.rounds.proofs.Fairness.{fair_step}
 
-lawful_more : (calls : List Call) (call : Call) → Every LawfulCall calls → LawfulCall call → Every LawfulCall (calls ++ call ∷ [])
-lawful_more [] call laws law = (law, tt)
-lawful_more (x ∷ xs) call laws law = (laws.0, lawful_more xs call laws.1 law)
+lawful_append : (xs ys : List Call) → Every LawfulCall xs → Every LawfulCall ys → Every LawfulCall (xs ++ ys)
+lawful_append [] ys laws more = more
+lawful_append (x ∷ xs) ys laws more = (laws.0, lawful_append xs ys laws.1 more)
 
 -- a call that gives what the plain round's step gives continues every run
 continues : (before : Model) (call : Call) (s : Stepped) → LawfulCall call → s ≡ step before call → Continues before call s
@@ -27,12 +27,24 @@ continues before call s law e calls laws at =
     record {
       left = left;
       answer = ap (λ (x : Stepped). x.answer) same;
-      promise = subst (Promise (calls ++ call ∷ [])) (sym left) (promised (calls ++ call ∷ []) (lawful_more calls call laws law));
+      promise = subst (Promise (calls ++ call ∷ [])) (sym left) (promised (calls ++ call ∷ []) (lawful_append calls (call ∷ []) laws (law, tt)));
     }
 
 -- and so it owes nothing more
 pub serves : (before : Model) (call : Call) (s : Stepped) → LawfulCall call → s ≡ step before call → Serves before call s
 serves before call s law e = record { step = e; fair = subst (Fair before call) (sym e) (fair_step before call); run = continues before call s law e }
+
+lawful_again : (call : Call) (n : ℕ) → LawfulCall call → Every LawfulCall (replicate n call)
+lawful_again call zero law = tt
+lawful_again call (suc n) law = (law, lawful_again call n law)
+
+-- so many of one call more
+pub promised_again : (before : Model) (call : Call) (n : ℕ) (left : Model) → LawfulCall call → left ≡ after_from before (replicate n call)
+    → (calls : List Call) → Every LawfulCall calls → after calls ≡ before → Promise (calls ++ replicate n call) left
+promised_again before call n left law is calls laws led =
+    let more = replicate n call in
+    let same : left ≡ after (calls ++ more) = is ∙ sym (ap (λ (m : Model). after_from m more) led) ∙ sym (after_append beginning calls more) in
+    subst (Promise (calls ++ more)) (sym same) (promised (calls ++ more) (lawful_append calls more laws (lawful_again call n law)))
 
 module _ {P B : Type 0} (meaning : P → Meaning) (answers : B → Answers) (bounded : (rule : P) (p : Package) → Bounded (meaning rule p)) (sound : (rule : B) → SoundRule (answers rule)) where
   -- a request is a lawful call, since rules show their laws

@@ -74,3 +74,5 @@ pub record Finishes (before : Model) (rule : Answers) (left : Model) : Type 0 wh
   pub some : 1 ≤ steps
   pub most : steps ≤ 1000000
   pub is : left ≡ after_from before (replicate searches (Search rule steps))
+  -- and what is promised of a run that led to the round is promised of what is left
+  pub run : (calls : List Call) → Every LawfulCall calls → after calls ≡ before → Promise (calls ++ replicate searches (Search rule steps)) left

@@ -3,6 +3,7 @@ use Rattle.std.proofs.Common.{◌≡◌, ℕ, zero, suc, replicate, sym, refl, a
 use Rattle.rounds.specs.declared.closed_round.Searched.{Searched}
 use Rattle.rounds.specs.Model.{Call, Model, Stepped, Search, Found, step, after_from}
 use Rattle.rounds.specs.Views.{of_closed, of_awarded, of_searched, gave, Falls}
+use Rattle.rounds.proofs.Kept.{promised_again}
 use Rattle.rounds.proofs.finishing.finish.Goals as goal
 
 -- the same call once more
@@ -42,4 +43,11 @@ returns-in-Awarded g c =
     once_more (of_closed c.args.round) (of_closed c.turns.closed) (of_awarded c.in-Awarded.done) (Search (g.B.BoundingRule.answers c.args.rule.now) steps)
     (gave (of_searched c.search-next.result.0) (Found c.search-next.result.1)) c.turns.invariant.led
     (c.search-next.ensures.served.step ∙ ap (λ r. step (of_closed c.turns.closed) (Search r steps)) same) (sym (ap of_searched c.in-Awarded.is)) in
-    record { searches = led.0; steps = steps; some = c.steps_a_turn-steps.ensures.some; most = c.steps_a_turn-steps.ensures.most; is = led.1 }
+    record {
+      searches = led.0;
+      steps = steps;
+      some = c.steps_a_turn-steps.ensures.some;
+      most = c.steps_a_turn-steps.ensures.most;
+      is = led.1;
+      run = promised_again (of_closed c.args.round) (Search (g.B.BoundingRule.answers c.args.rule.now) steps) led.0 (of_awarded c.in-Awarded.done) (g.met.B.BoundingRule.sound c.args.rule.now) led.1;
+    }
