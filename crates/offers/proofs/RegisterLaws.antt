@@ -2,7 +2,7 @@
 use Rattle.std.proofs.Common.{◌≡◌, ℕ, ◌-◌, ◌<◌, ◌≤◌, min, Bool, true, false, cond, eqb, leb, ◌⊎◌, List, length, get_or, set, Some, None, Ok, Err, Result, refl, subst, inl, inr, ⊎_elim, arith, length-set}
 use Rattle.std.proofs.lemmas.List.{get_or-set_same, get_or-set_other, set_past}
 use Rattle.std.proofs.lemmas.Option.{none-some}
-use Rattle.std.proofs.lemmas.Bool.{cond_both, cases_eq, cases_lt, and_parts, leb-true}
+use Rattle.std.proofs.lemmas.Bool.{cond_both, cases_eq, cases_lt, and_parts, leb-true, eqb-true}
 use Rattle.offers.specs.declared.refusals.Code.{Code}
 use Rattle.offers.specs.declared.refusals.Code.TheVariants.{NumberOutside, FieldOutside, AlreadyOpen, AlreadyWithdrawn, NotFiled}
 use Rattle.offers.specs.declared.refusals.Refusal.{Refusal}
@@ -143,3 +143,30 @@ set-in_range k es at e ok new i = ⊎_elim here there (cases_eq i at)
 
     there : (i ≡ at → ⊥) → held_fault k (get_or (set es at e) i Vacant) ≡ 0
     there ne = rw (get_or-set_other es at i e Vacant ne) (ok i)
+
+-- an outcome whose entries are in range
+abbrev Ranged : {R : Type 0} → Layout R → Outcome (List (Entry R)) → Type 0
+Ranged k o = InRange k o.left
+
+-- a register in range stays so: only a record in range is filed, and a withdrawn entry holds the record that it held open
+module _ {R : Type 0} (k : Layout R) (es : List (Entry R)) (n : ℕ) (ok : InRange k es) where
+  over-filed_in_range : (r : R) → fault_of k r ≡ 0 → (held : Entry R) → Ranged k (file_over k es n r held)
+  over-filed_in_range r fine Vacant = set-in_range k es (n - 1) (Open r) ok fine
+  over-filed_in_range r fine (Open old) = ok
+  over-filed_in_range r fine (Withdrawn old) = ok
+
+  pub filing-in_range : (r : R) → InRange k (filing k es n r).left
+  filing-in_range r =
+      cond_both (numbered k es n) _ _ (Ranged k)
+      (λ _. cond_both (eqb (fault_of k r) 0) _ _ (Ranged k)
+      (λ fine. over-filed_in_range r (eqb-true (fault_of k r) 0 fine) (entry es n))
+      (λ _. ok))
+      (λ _. ok)
+
+  over-withdrawn_in_range : (held : Entry R) → entry es n ≡ held → Ranged k (withdraw_over k es n held)
+  over-withdrawn_in_range Vacant e = ok
+  over-withdrawn_in_range (Open r) e = set-in_range k es (n - 1) (Withdrawn r) ok (rw e at (ok (n - 1)))
+  over-withdrawn_in_range (Withdrawn r) e = ok
+
+  pub withdrawing-in_range : InRange k (withdrawing k es n).left
+  withdrawing-in_range = cond_both (numbered k es n) _ _ (Ranged k) (λ _. over-withdrawn_in_range (entry es n) refl) (λ _. ok)

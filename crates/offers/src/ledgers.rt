@@ -1,11 +1,10 @@
 // A ledger: the entries of one kind, one for each offer number, every record of them in range.
 ghost use Rattle.std.specs.Prelude.{◌≡◌, length, replicate, ⊤};
-ghost use Rattle.offers.specs.Registers.{filing, withdrawing, Moved, InRange};
+ghost use Rattle.offers.specs.Registers.{InRange};
 ghost use Rattle.offers.specs.declared.registers.Entry.TheVariants.{Vacant};
 
 use crate::records::Record;
-use crate::refusals::Refusal;
-use crate::registers::{Entry, file_in, withdraw_in};
+use crate::registers::Entry;
 use std::alloc::AllocError;
 
 // Number n stands at place n - 1.
@@ -38,23 +37,5 @@ impl<R: Record, const N: usize> Ledger<R, N> {
         Ledger {
             entries: [Entry::Vacant; N],
         }
-    }
-
-    // Makes a vacant number open. Not through a `Register`: that what a generic ledger lends to one ends as it says did not prove.
-    pub fn file(&mut self, number: u8, new: R) -> Result<(), Refusal>
-        ensures answer { result ≡ (filing R.Record.layout self.old.entries number new).answer }
-        ensures after { self.new.entries ≡ (filing R.Record.layout self.old.entries number new).left }
-        ensures moved { Moved self.old.entries number result self.new.entries }
-    {
-        file_in(&mut self.entries, number, new)
-    }
-
-    // Makes an open number withdrawn.
-    pub fn withdraw(&mut self, number: u8) -> Result<(), Refusal>
-        ensures answer { result ≡ (withdrawing R.Record.layout self.old.entries number).answer }
-        ensures after { self.new.entries ≡ (withdrawing R.Record.layout self.old.entries number).left }
-        ensures moved { Moved self.old.entries number result self.new.entries }
-    {
-        withdraw_in(&mut self.entries, number)
     }
 }

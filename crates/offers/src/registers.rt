@@ -1,6 +1,6 @@
 // A register: one entry for each offer number of a kind, filed on and withdrawn in one text for every kind.
-ghost use Rattle.std.specs.Prelude.{◌≡◌};
-ghost use Rattle.offers.specs.Refusals.{refused_at};
+ghost use Rattle.std.specs.Prelude.{◌≡◌, IfErr};
+ghost use Rattle.offers.specs.Refusals.{refused_at, Carries};
 ghost use Rattle.offers.specs.Registers.{is_vacant, place, filing, withdrawing, Moved};
 
 use crate::records::Record;
@@ -33,6 +33,7 @@ impl<R: Record> Register<'_, R> {
         ensures same_lender { self.new.0.ghost_name ≡ self.old.0.ghost_name }
         ensures after { self.new.0.now ≡ (filing R.Record.layout self.old.0.now number new).left }
         ensures moved { Moved self.old.0.now number result self.new.0.now }
+        ensures carries { IfErr result Carries }
     {
         file_in(self.0, number, new)
     }
@@ -43,6 +44,7 @@ impl<R: Record> Register<'_, R> {
         ensures same_lender { self.new.0.ghost_name ≡ self.old.0.ghost_name }
         ensures after { self.new.0.now ≡ (withdrawing R.Record.layout self.old.0.now number).left }
         ensures moved { Moved self.old.0.now number result self.new.0.now }
+        ensures carries { IfErr result Carries }
     {
         withdraw_in(self.0, number)
     }
@@ -76,6 +78,7 @@ pub fn file_in<R: Record>(entries: &mut [Entry<R>], number: u8, new: R) -> Resul
     ensures answer { result ≡ (filing R.Record.layout entries.old number new).answer }
     ensures after { entries.new ≡ (filing R.Record.layout entries.old number new).left }
     ensures moved { Moved entries.old number result entries.new }
+    ensures carries { IfErr result Carries }
 {
     let Some(at) = place_of(entries, number) else {
         return Err(refusal::<R>(Code::NumberOutside, number, 0));
@@ -99,6 +102,7 @@ pub fn withdraw_in<R: Record>(entries: &mut [Entry<R>], number: u8) -> Result<()
     ensures answer { result ≡ (withdrawing R.Record.layout entries.old number).answer }
     ensures after { entries.new ≡ (withdrawing R.Record.layout entries.old number).left }
     ensures moved { Moved entries.old number result entries.new }
+    ensures carries { IfErr result Carries }
 {
     let Some(at) = place_of(entries, number) else {
         return Err(refusal::<R>(Code::NumberOutside, number, 0));

@@ -1,8 +1,9 @@
 // One field of a sheet: its header taken off, its content taken into the entries of its kind.
-ghost use Rattle.std.specs.Prelude.{◌≡◌, length, Ok, Err};
+ghost use Rattle.std.specs.Prelude.{◌≡◌, length, Ok, Err, IfErr};
 ghost use Rattle.offers.specs.Layouts.{fault_of};
 ghost use Rattle.offers.specs.Marks.{decoded};
 ghost use Rattle.offers.specs.Memory.{layout_of};
+ghost use Rattle.offers.specs.Refusals.{Carries};
 ghost use Rattle.offers.specs.Registers.{held_fault};
 ghost use Rattle.sheets.specs.Fields.{refused_field, content_size, split as split_off, rises as comes_after, agrees as in_accord, status_of, status_byte, status_withdrawn, entry_of, joined as join, take_in};
 
@@ -94,7 +95,8 @@ pub(crate) fn content_length(kind: Kind) -> usize
 
 // Takes the header off the field that starts the sheet's rest.
 pub(crate) fn split_field(sheet: &[u8], byte: usize) -> Result<Field<'_>, Refusal>
-    ensures { elim result [ Ok f ↦ split_off sheet.now byte ≡ Ok (record { kind = f.kind; content = f.content.now; rest = f.rest.now }) | Err e ↦ split_off sheet.now byte ≡ Err e ] }
+    ensures answer { elim result [ Ok f ↦ split_off sheet.now byte ≡ Ok (record { kind = f.kind; content = f.content.now; rest = f.rest.now }) | Err e ↦ split_off sheet.now byte ≡ Err e ] }
+    ensures carries { IfErr result Carries }
 {
     let [tag, high, low, body @ ..] = sheet else {
         return Err(refusal(Code::CutShort, 0, 0, 0, byte));
@@ -167,6 +169,7 @@ pub(crate) fn take_content<R: Record, const N: usize>(
     requires { length content.now ≡ content_size R.Record.layout }
     ensures answer { result ≡ (take_in R.Record.layout ledger.old.entries last content.now).answer }
     ensures after { ledger.new.entries ≡ (take_in R.Record.layout ledger.old.entries last content.now).left }
+    ensures carries { IfErr result Carries }
 {
     let tag = R::TAG;
     let number = content[0];

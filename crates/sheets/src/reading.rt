@@ -1,6 +1,7 @@
 // Catching up: a sheet is read into a copy of the offers, which is stored once the whole sheet was in order.
-ghost use Rattle.std.specs.Prelude.{◌≡◌, length};
+ghost use Rattle.std.specs.Prelude.{◌≡◌, length, IfErr};
 ghost use Rattle.offers.specs.Memory.{held, layout_of};
+ghost use Rattle.offers.specs.Refusals.{Carries};
 ghost use Rattle.sheets.specs.Fields.{content_size};
 ghost use Rattle.sheets.specs.Laws.{CaughtUp};
 ghost use Rattle.sheets.specs.Reading.{take_piece, catching_up};
@@ -41,6 +42,7 @@ fn take_field(offers: &mut Offers, last: Mark, field: Field<'_>) -> Result<u8, R
     requires { length field.content.now ≡ content_size (layout_of field.kind) }
     ensures answer { result ≡ (take_piece (held offers.old) last (record { kind = field.entry.kind; content = field.entry.content.now; rest = field.entry.rest.now })).answer }
     ensures after { held offers.new ≡ (take_piece (held offers.old) last (record { kind = field.entry.kind; content = field.entry.content.now; rest = field.entry.rest.now })).left }
+    ensures carries { IfErr result Carries }
 {
     // a `dyn` ledger in place of the arms would need this same match to be picked
     match field.kind {

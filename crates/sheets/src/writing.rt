@@ -1,6 +1,7 @@
 // Writing: every entry that is not vacant goes straight into the caller's buffer, by rising tag, then rising number.
-ghost use Rattle.std.specs.Prelude.{◌≡◌, ◌+◌, ◌*◌, ◌^◌, ◌<◌, ◌≤◌, ◌++◌, length, take, drop};
+ghost use Rattle.std.specs.Prelude.{◌≡◌, ◌+◌, ◌*◌, ◌^◌, ◌<◌, ◌≤◌, ◌++◌, length, take, drop, IfErr};
 ghost use Rattle.offers.specs.Memory.{Sound, held};
+ghost use Rattle.offers.specs.Refusals.{Carries};
 ghost use Rattle.sheets.specs.Fields.{content_size, status_byte};
 ghost use Rattle.sheets.specs.Laws.{Faithful};
 ghost use Rattle.sheets.specs.Writing.{field_bytes, register_bytes, sheet_of, write_sheet};
@@ -16,6 +17,7 @@ pub fn write_sheet(offers: &Offers, buffer: &mut [u8]) -> Result<usize, Refusal>
     ensures answer { result ≡ (write_sheet (held offers.now) buffer.old).answer }
     ensures after { buffer.new ≡ (write_sheet (held offers.now) buffer.old).buffer }
     ensures faithful { Faithful (held offers.now) }
+    ensures carries { IfErr result Carries }
 {
     let length = sheet_length(offers);
     if buffer.len() < length {

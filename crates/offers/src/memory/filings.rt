@@ -5,6 +5,7 @@ ghost use Rattle.offers.specs.Memory.{held, vacant as all_vacant, file_offer, wi
 use crate::ledgers::Ledger;
 use crate::memory::{Kind, Offer, Offers};
 use crate::refusals::Refusal;
+use crate::registers::Register;
 
 impl Offers {
     // The offers of a round that has none: every number is vacant.
@@ -28,11 +29,11 @@ impl Offers {
     {
         // each arm files another type of record, so what a closure or a `dyn` could share is the name of the method
         match offer {
-            Offer::Package(new) => self.packages.file(number, new),
-            Offer::Band(new) => self.bands.file(number, new),
-            Offer::Pair(new) => self.pairs.file(number, new),
-            Offer::Exclusion(new) => self.exclusions.file(number, new),
-            Offer::Limit(new) => self.limits.file(number, new),
+            Offer::Package(new) => Register(&mut self.packages.entries).file(number, new),
+            Offer::Band(new) => Register(&mut self.bands.entries).file(number, new),
+            Offer::Pair(new) => Register(&mut self.pairs.entries).file(number, new),
+            Offer::Exclusion(new) => Register(&mut self.exclusions.entries).file(number, new),
+            Offer::Limit(new) => Register(&mut self.limits.entries).file(number, new),
         }
     }
 
@@ -42,13 +43,13 @@ impl Offers {
         ensures after { held self.new ≡ (withdraw_offer (held self.old) kind number).left }
         ensures kept { Kept (held self.old) result (held self.new) }
     {
-        // a `dyn` ledger in place of the arms would need this same match to be picked
+        // a `dyn` register in place of the arms would need this same match to be picked
         match kind {
-            Kind::Package => self.packages.withdraw(number),
-            Kind::Band => self.bands.withdraw(number),
-            Kind::Pair => self.pairs.withdraw(number),
-            Kind::Exclusion => self.exclusions.withdraw(number),
-            Kind::Limit => self.limits.withdraw(number),
+            Kind::Package => Register(&mut self.packages.entries).withdraw(number),
+            Kind::Band => Register(&mut self.bands.entries).withdraw(number),
+            Kind::Pair => Register(&mut self.pairs.entries).withdraw(number),
+            Kind::Exclusion => Register(&mut self.exclusions.entries).withdraw(number),
+            Kind::Limit => Register(&mut self.limits.entries).withdraw(number),
         }
     }
 }

@@ -6,8 +6,8 @@ use Rattle.offers.proofs.Decoding.{decoded_some}
 use Rattle.sheets.proofs.Splits.{split_in_order}
 use Rattle.sheets.proofs.fields.split_field.Goals as goal
 
-pub returns : goal.returns
-returns c =
+pub returns-clause-answer : goal.returns-clause-answer
+returns-clause-answer c =
     let sheet = c.args.sheet.now in
     let size = get_or sheet 1 0 * 256 + get_or sheet 2 0 in
     let body = take_rest sheet 3 in

@@ -14,14 +14,14 @@ piece f = record { kind = f.kind; content = f.content.now; rest = f.rest.now }
 
 pub take_field-requires : goal.take_field-requires
 take_field-requires c =
-    (split_off c.loop-rest.rest.now c.loop-rest.last.byte (piece c.in_ok-field.field) c.in_ok-field.ensures).whole
+    (split_off c.loop-rest.rest.now c.loop-rest.last.byte (piece c.in_ok-field.field) c.in_ok-field.ensures.answer).whole
 
 pub loop-rest-preserved : goal.loop-rest-preserved
 loop-rest-preserved c =
     let p = piece c.in_ok-field.field in
-    let fewer = split-shorter c.loop-rest.rest.now c.loop-rest.last.byte p c.in_ok-field.ensures in
+    let fewer = split-shorter c.loop-rest.rest.now c.loop-rest.last.byte p c.in_ok-field.ensures.answer in
     let taken = sym c.take_field.ensures.answer ∙ c.in_ok-number.was in
-    let next = catch_next (held c.loop-rest.copy) c.loop-rest.last c.loop-rest.rest.now p c.in_ok-number.number c.in_ok-field.ensures taken in
+    let next = catch_next (held c.loop-rest.copy) c.loop-rest.last c.loop-rest.rest.now p c.in_ok-number.number c.in_ok-field.ensures.answer taken in
     (rw (c.take_field.ensures.after, c.tag.ensures) (sym next ∙ c.loop-rest.invariant.0), omega arith)
 
 pub returns-in_err-field : goal.returns-in_err-field

@@ -23,24 +23,24 @@ take_content-requires-in-Limit c = (omega arith, size_as kind.Limit c.args.field
 pub returns-in-Package : goal.returns-in-Package
 returns-in-Package c =
     let done = takes (held c.args.offers.now) c.args.last c.args.field.kind kind.Package c.args.field.content.now c.args.field.rest.now _ _ c.in-Package.is c.take_content.ensures.answer c.take_content.ensures.after in
-    record { answer = done.answers; after = done.leaves }
+    record { answer = done.answers; after = done.leaves; carries = c.take_content.ensures.carries }
 
 pub returns-in-Band : goal.returns-in-Band
 returns-in-Band c =
     let done = takes (held c.args.offers.now) c.args.last c.args.field.kind kind.Band c.args.field.content.now c.args.field.rest.now _ _ c.in-Band.is c.take_content-in-Band.ensures.answer c.take_content-in-Band.ensures.after in
-    record { answer = done.answers; after = done.leaves }
+    record { answer = done.answers; after = done.leaves; carries = c.take_content-in-Band.ensures.carries }
 
 pub returns-in-Pair : goal.returns-in-Pair
 returns-in-Pair c =
     let done = takes (held c.args.offers.now) c.args.last c.args.field.kind kind.Pair c.args.field.content.now c.args.field.rest.now _ _ c.in-Pair.is c.take_content-in-Pair.ensures.answer c.take_content-in-Pair.ensures.after in
-    record { answer = done.answers; after = done.leaves }
+    record { answer = done.answers; after = done.leaves; carries = c.take_content-in-Pair.ensures.carries }
 
 pub returns-in-Exclusion : goal.returns-in-Exclusion
 returns-in-Exclusion c =
     let done = takes (held c.args.offers.now) c.args.last c.args.field.kind kind.Exclusion c.args.field.content.now c.args.field.rest.now _ _ c.in-Exclusion.is c.take_content-in-Exclusion.ensures.answer c.take_content-in-Exclusion.ensures.after in
-    record { answer = done.answers; after = done.leaves }
+    record { answer = done.answers; after = done.leaves; carries = c.take_content-in-Exclusion.ensures.carries }
 
 pub returns-in-Limit : goal.returns-in-Limit
 returns-in-Limit c =
     let done = takes (held c.args.offers.now) c.args.last c.args.field.kind kind.Limit c.args.field.content.now c.args.field.rest.now _ _ c.in-Limit.is c.take_content-in-Limit.ensures.answer c.take_content-in-Limit.ensures.after in
-    record { answer = done.answers; after = done.leaves }
+    record { answer = done.answers; after = done.leaves; carries = c.take_content-in-Limit.ensures.carries }

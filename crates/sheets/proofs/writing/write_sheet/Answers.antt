@@ -12,6 +12,7 @@ returns-then-buffer-length c = record {
   answer = search rules;
   after = search rules;
   faithful = faithful (held c.args.offers.now) c.sheet_length-length.ensures.sound;
+  carries = search rules;
 }
 
 pub returns : goal.returns
@@ -31,4 +32,4 @@ returns c =
     writes all c.put_register.result c.sheet_length-length.result c.args.buffer.now c.put_register.new.buffer
     c.sheet_length-length.ensures.value c.if-buffer-length.false
     (put_both packages (put_both bands (put_both pairs (put_both exclusions limits)))) in
-    record { answer = done.answers; after = done.leaves; faithful = faithful all c.sheet_length-length.ensures.sound }
+    record { answer = done.answers; after = done.leaves; faithful = faithful all c.sheet_length-length.ensures.sound; carries = tt }

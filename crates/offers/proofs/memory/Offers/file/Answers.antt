@@ -1,7 +1,8 @@
--- What filing in one kind's ledger ensures, as what it ensures of all offers.
+-- What filing in the entries of one kind's ledger ensures, as what it ensures of all offers; and they are a ledger's again.
 use Rattle.std.proofs.Common.{ap}
 use Rattle.offers.specs.declared.memory.Kind.TheVariants as kind
 use Rattle.offers.specs.Memory.{held, file_offer}
+use Rattle.offers.proofs.LedgerLaws.{filing-is_ledger}
 use Rattle.offers.proofs.MemoryLaws.{filed}
 use Rattle.offers.proofs.memory.Offers.file.Goals as goal
 
@@ -34,3 +35,18 @@ returns-in-Limit c =
     let all = held c.args.self.now in
     let d = filed all c.args.number c.args.offer kind.Limit c.in-Limit.new (ap (file_offer all c.args.number) c.in-Limit.is) _ _ c.file-in-Limit.ensures.answer c.file-in-Limit.ensures.after in
     record { answer = d.answer_is; after = d.after_is; kept = d.kept }
+
+pub invariant_of-self : goal.invariant_of-self
+invariant_of-self c = filing-is_ledger c.args.self.now.packages c.args.number c.in-Package.new c.file.ensures.after
+
+pub invariant_of-self-in-Band : goal.invariant_of-self-in-Band
+invariant_of-self-in-Band c = filing-is_ledger c.args.self.now.bands c.args.number c.in-Band.new c.file-in-Band.ensures.after
+
+pub invariant_of-self-in-Pair : goal.invariant_of-self-in-Pair
+invariant_of-self-in-Pair c = filing-is_ledger c.args.self.now.pairs c.args.number c.in-Pair.new c.file-in-Pair.ensures.after
+
+pub invariant_of-self-in-Exclusion : goal.invariant_of-self-in-Exclusion
+invariant_of-self-in-Exclusion c = filing-is_ledger c.args.self.now.exclusions c.args.number c.in-Exclusion.new c.file-in-Exclusion.ensures.after
+
+pub invariant_of-self-in-Limit : goal.invariant_of-self-in-Limit
+invariant_of-self-in-Limit c = filing-is_ledger c.args.self.now.limits c.args.number c.in-Limit.new c.file-in-Limit.ensures.after

@@ -1,6 +1,7 @@
--- What withdrawing in one kind's ledger ensures, as what it ensures of all offers.
+-- What withdrawing in the entries of one kind's ledger ensures, as what it ensures of all offers; and they are a ledger's again.
 use Rattle.offers.specs.declared.memory.Kind.TheVariants as kind
 use Rattle.offers.specs.Memory.{held}
+use Rattle.offers.proofs.LedgerLaws.{withdrawing-is_ledger}
 use Rattle.offers.proofs.MemoryLaws.{withdrawn}
 use Rattle.offers.proofs.memory.Offers.withdraw.Goals as goal
 
@@ -28,3 +29,18 @@ pub returns-in-Limit : goal.returns-in-Limit
 returns-in-Limit c =
     let d = withdrawn (held c.args.self.now) c.args.kind c.args.number kind.Limit c.in-Limit.is _ _ c.withdraw-in-Limit.ensures.answer c.withdraw-in-Limit.ensures.after in
     record { answer = d.answer_is; after = d.after_is; kept = d.kept }
+
+pub invariant_of-self : goal.invariant_of-self
+invariant_of-self c = withdrawing-is_ledger c.args.self.now.packages c.args.number c.withdraw.ensures.after
+
+pub invariant_of-self-in-Band : goal.invariant_of-self-in-Band
+invariant_of-self-in-Band c = withdrawing-is_ledger c.args.self.now.bands c.args.number c.withdraw-in-Band.ensures.after
+
+pub invariant_of-self-in-Pair : goal.invariant_of-self-in-Pair
+invariant_of-self-in-Pair c = withdrawing-is_ledger c.args.self.now.pairs c.args.number c.withdraw-in-Pair.ensures.after
+
+pub invariant_of-self-in-Exclusion : goal.invariant_of-self-in-Exclusion
+invariant_of-self-in-Exclusion c = withdrawing-is_ledger c.args.self.now.exclusions c.args.number c.withdraw-in-Exclusion.ensures.after
+
+pub invariant_of-self-in-Limit : goal.invariant_of-self-in-Limit
+invariant_of-self-in-Limit c = withdrawing-is_ledger c.args.self.now.limits c.args.number c.withdraw-in-Limit.ensures.after
