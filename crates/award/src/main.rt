@@ -1,12 +1,20 @@
 // Reads a sheet from standard input, clears its round, and prints the award.
 #![tactic(auto)]
 
-ghost use Rattle.std.specs.Prelude.{◌≡◌, ◌+◌, ◌%◌, ◌≤◌, Decides, IfOk, IfSome, take, vec_len};
+ghost use Rattle.std.specs.Prelude.{◌≡◌, ◌+◌, ◌%◌, ◌≤◌, Decides, IfOk, IfSome, MatchResult, take, vec_len};
+ghost use Rattle.rounds.specs.Views.{of_open};
+ghost use Rattle.award.specs.Cleared.{Cleared, NotCleared};
 
 use anyhow::anyhow;
-use clearing::dockets::Docket;
-use rounds::report::{RefusedSheet, Report};
-use rounds::sheet_round::{Progress, award_sheet};
+use bounds::all_in::AllIn;
+use bounds::joined::Joined;
+use bounds::limits::Limits;
+use offers::refusals::Refusal;
+use pricing::filed::Filed;
+use reports::report::{RefusedSheet, Report};
+use rounds::awarded_round::AwardedRound;
+use rounds::finishing::{Progress, finish};
+use rounds::open_round::OpenRound;
 use std::alloc::Global;
 use std::io;
 use std::io::Read;
@@ -62,16 +70,29 @@ fn read_all<R: Read + Drop>(heap: Global, input: R) -> io::Result<Vec<u8>>
     Ok(sheet)
 }
 
+// The award of a sheet: caught up with, closed with the prices as filed, and searched to the end.
+fn clear<P: Progress>(
+    mut round: OpenRound,
+    sheet: &[u8],
+    progress: &mut P,
+) -> Result<AwardedRound, Refusal>
+    ensures { MatchResult result (Cleared (of_open round) sheet.now) (NotCleared (of_open round) sheet.now) }
+{
+    round.catch_up(sheet)?;
+    match round.close(&mut Filed) {
+        Ok(closed) => Ok(finish(closed, &mut Joined(Limits, AllIn), progress)),
+        Err((_, refusal)) => Err(refusal),
+    }
+}
+
 fn main(rt: HostRuntime) -> anyhow::Result<()> {
     let sheet = read_all(rt.alloc(), rt.stdin())?;
     // the library's own text for this is another
-    let mut docket = Docket::new(rt.alloc()).map_err(|_| anyhow!("out of memory"))?;
+    let round = OpenRound::new(rt.alloc()).map_err(|_| anyhow!("out of memory"))?;
     let mut meter = Meter::new(&rt);
-    match award_sheet(&mut docket, &sheet, &mut meter) {
-        Ok(award) => {
-            let report = Report::of(rt.alloc(), &docket, award).map_err(|_| anyhow!(
-                "out of memory"
-            ))?;
+    match clear(round, &sheet, &mut meter) {
+        Ok(awarded) => {
+            let report = Report::of(rt.alloc(), &awarded).map_err(|_| anyhow!("out of memory"))?;
             rt.print(report)?;
             Ok(())
         }

@@ -38,12 +38,7 @@ pub fn choices(docket: &Docket) -> u64
 
 // Makes the steps that it is given, or fewer if every choice is settled before. As many steps as there are packages settle
 // at least one choice, and a leader that was the best of the settled choices is so again.
-pub fn run<B: BoundingRule>(
-    docket: &Docket,
-    from: Position,
-    rule: &mut B,
-    steps: u32,
-) -> Position
+pub fn run<B: BoundingRule>(docket: &Docket, from: Position, rule: &mut B, steps: u32) -> Position
     ensures value { Placed (view docket.now) (standing from) → standing result ≡ run_of (B.BoundingRule.answers rule.old) (view docket.now) steps (standing from) }
     ensures falls { 0 < steps → from.settled < 2 ^ vec_len docket.now.packages.list → left result < left from }
     ensures settles { Placed (view docket.now) (standing from) → from.settled < choice_count (view docket.now) → length (view docket.now).packages ≤ steps → from.settled < result.settled }

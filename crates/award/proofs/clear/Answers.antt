@@ -1,0 +1,25 @@
+-- `clear`: the two calls and the search are those that a sheet is cleared by.
+use Rattle.std.proofs.Common.{◌≡◌, Ok, Result, sym, ap, ◌∙◌, subst}
+use Rattle.offers.specs.declared.refusals.Refusal.{Refusal}
+use Rattle.pricing.specs.Prices.{filed_price}
+use Rattle.bounds.specs.Rules.{limits_and_all_in}
+use Rattle.rounds.specs.declared.open_round.OpenRound.{OpenRound}
+use Rattle.rounds.specs.declared.closed_round.ClosedRound.{ClosedRound}
+use Rattle.rounds.specs.Model.{CatchUp, Close, Done, Model, step}
+use Rattle.rounds.specs.Views.{of_open, of_closed, of_awarded, gave, gave_closing, Finishes}
+use Rattle.award.proofs.Calls.{both_answered, both_left}
+use Rattle.award.proofs.clear.Goals as goal
+
+pub returns-in-Ok : goal.returns-in-Ok
+returns-in-Ok g c =
+    let before = of_open c.args.round in
+    let first = of_open c.catch_up.new.self in
+    let second = of_closed c.in-Ok.closed in
+    let read : gave first (Done (Ok tt)) ≡ step before (CatchUp c.args.sheet.now) = ap (λ (r : Result Unit Refusal). gave first (Done r)) (sym c.in_ok-catch_up.was) ∙ c.catch_up.ensures.step in
+    let shut : gave second (Done (Ok tt)) ≡ step first (Close filed_price) = ap gave_closing (sym c.in-Ok.is) ∙ c.close.ensures.served.step in
+    record {
+      accepted = both_answered before first second (CatchUp c.args.sheet.now) (Close filed_price) (Done (Ok tt)) (Done (Ok tt)) read shut;
+      finished =
+          subst (λ (m : Model). Finishes m limits_and_all_in (of_awarded c.finish.result))
+          (sym (both_left before first second (CatchUp c.args.sheet.now) (Close filed_price) (Done (Ok tt)) (Done (Ok tt)) read shut)) c.finish.ensures;
+    }
