@@ -7,14 +7,14 @@ use Rattle.std.proofs.lemmas.Bool.Decides.{nat_tests}
 use Rattle.clearing.specs.declared.dockets.OpenBand.{OpenBand}
 use Rattle.clearing.specs.Bands.{offered, comes_ahead, ahead_of, rising, aheads, true_aheads}
 use Rattle.clearing.specs.Choices.{taken, where_so, supply}
-use Rattle.clearing.specs.Filling.{PartsWithin, InOrder, BestFilled}
+use Rattle.clearing.specs.Filling.{PartsWithin, BestFilled}
 use Rattle.clearing.specs.Lawful.{View, WithinQuantities, sold, paid, percentage, Lawful, filled_sales}
 use Rattle.clearing.specs.Ranges.{each, band_fits}
 use Rattle.clearing.specs.Sales.{filled}
 use Rattle.clearing.specs.Tallies.{row}
 use Rattle.clearing.proofs.Fits.{OpenRanges, open_ranges}
 use Rattle.clearing.proofs.FillingSums.{where_same, times_least, all_of, all_both, all_maps, total-same, total-map, row_getD, over, over-map, over_none, over-plus, sold_where, wanted, within-wanted}
-use Rattle.clearing.proofs.FillingOrder.{at_least, at_least-front, share, front-filled}
+use Rattle.clearing.proofs.FillingOrder.{InOrder, at_least, at_least-front, share, front-filled}
 
 -- the fields of bands in range
 pub ranged : (bs : List OpenBand) → each band_fits bs ≡ true → Every OpenRanges bs

@@ -1,7 +1,6 @@
 -- Why the filled sales are the sales to take: they are lawful where any are, and bring most. Assumes nothing.
-use Rattle.std.specs.Prelude.{◌≡◌, ℕ, ◌*◌, ◌≤◌, true, List, [], ◌∷◌}
+use Rattle.std.specs.Prelude.{ℕ, ◌*◌, ◌≤◌, List, [], ◌∷◌}
 use Rattle.clearing.specs.declared.dockets.OpenBand.{OpenBand}
-use Rattle.clearing.specs.Bands.{rising, aheads, true_aheads}
 use Rattle.clearing.specs.Choices.{taken, supply}
 use Rattle.clearing.specs.Lawful.{View, Lawful, filled_sales, sold, paid}
 
@@ -11,11 +10,6 @@ PartsWithin d [] [] = Unit {0}
 PartsWithin d [] (s ∷ ss) = ⊥
 PartsWithin d (b ∷ bs) [] = ⊥
 PartsWithin d (b ∷ bs) (s ∷ ss) = (s ≤ d * b.«record».quantity) × PartsWithin d bs ss
-
--- a docket's bands as a closing makes them: by rising number, each with what stands ahead of it
-pub record InOrder (v : View) : Type 0 where
-  pub numbers : rising v.bands ≡ true
-  pub ahead : aheads v.bands ≡ true_aheads v.bands
 
 -- What the filled sales of a choice are among all sales of it.
 pub record BestFilled (v : View) (choice : ℕ) : Type 0 where
