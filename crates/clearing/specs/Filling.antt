@@ -2,7 +2,7 @@
 use Rattle.std.specs.Prelude.{ℕ, ◌*◌, ◌≤◌, List, [], ◌∷◌}
 use Rattle.clearing.specs.declared.dockets.OpenBand.{OpenBand}
 use Rattle.clearing.specs.Choices.{taken, supply}
-use Rattle.clearing.specs.Lawful.{View, Lawful, filled_sales, sold, paid}
+use Rattle.clearing.specs.Lawful.{View, Lawful, filled_sales, sold, income}
 
 -- each band is sold at most its quantity, counted in d-th parts of a unit
 abbrev pub PartsWithin : ℕ → List OpenBand → List ℕ → Type 0
@@ -18,4 +18,4 @@ pub record BestFilled (v : View) (choice : ℕ) : Type 0 where
   -- no sales within quantities and supply, even of d-th parts of a unit, bring more
   pub most : (d : ℕ) → 1 ≤ d → (sales : List ℕ) → PartsWithin d v.bands sales
       → ((m : ℕ) → sold v.bands sales m ≤ d * supply m (taken v.packages choice))
-      → paid v.bands sales ≤ d * paid v.bands (filled_sales v choice)
+      → income v.bands sales ≤ d * income v.bands (filled_sales v choice)
