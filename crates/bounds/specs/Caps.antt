@@ -1,16 +1,15 @@
 -- Why each rule is sound, of a docket in range: its caps are no less than any lawful surplus, and none is lawful where it says none.
-use Rattle.std.specs.Prelude.{◌≡◌, ℕ, ◌*◌, ◌≤◌, true, ◌&&◌, List, [], ◌∷◌, length, ℤ, ◌≤ℤ◌, Some, None, Option}
-use Rattle.std.proofs.Common.{le_trans, mul-le-mul, arith}
+use Rattle.std.specs.Prelude.{◌≡◌, ℕ, true, ◌&&◌, List, ℤ, ◌≤ℤ◌, Some, None, Option}
+use Rattle.std.proofs.Common.{le_trans, arith}
 use Rattle.std.proofs.ByRecursion.{All-weaker}
 use Rattle.std.proofs.lemmas.Int.{ints, clamps}
-use Rattle.std.proofs.lemmas.Bool.{and_parts, and_from, both_ways, cond_both}
-use Rattle.clearing.specs.declared.dockets.OpenBand.{OpenBand}
+use Rattle.std.proofs.lemmas.Bool.{and_from, both_ways, cond_both}
 use Rattle.clearing.specs.Choices.{taken}
 use Rattle.clearing.specs.Judging.{pairs_met, groups_apart, zones_within}
-use Rattle.clearing.specs.Lawful.{View, WithinQuantities, paid, Lawful, surplus}
-use Rattle.clearing.specs.Ranges.{each, package_fits, band_fits}
+use Rattle.clearing.specs.Lawful.{View, Lawful, surplus}
+use Rattle.clearing.specs.Ranges.{package_fits}
 use Rattle.clearing.proofs.Filling.{best-filled, parts_of_one}
-use Rattle.clearing.proofs.Fits.{open_ranges}
+use Rattle.clearing.proofs.Incomes.{income-few}
 use Rattle.clearing.proofs.Judged.{pairs_tell, groups_tell, zones_tell}
 use Rattle.clearing.proofs.Ranged.{Ranged}
 use Rattle.clearing.proofs.RowRules.{all_both}
@@ -28,22 +27,11 @@ smaller-sound v b (Some cap) None claims none = none
 smaller-sound v b (Some cap) (Some other) caps others =
     λ choice sales inside lawful. omega (arith, ints, clamps, caps choice sales inside lawful, others choice sales inside lawful)
 
--- what bands in range pay for sales within their quantities
-paid-few : (bs : List OpenBand) (ss : List ℕ) → each band_fits bs ≡ true → WithinQuantities bs ss → paid bs ss ≤ 1000000000000000 * length bs
-paid-few [] ss ok within = omega arith
-paid-few (b ∷ bs) [] ok within = omega arith
-paid-few (b ∷ bs) (s ∷ ss) ok within =
-    let parts = and_parts (band_fits b) (each band_fits bs) ok in
-    let r = open_ranges b parts.0 in
-    let few : s ≤ 100000000 = omega (arith, within.0, r.of_record.quantity) in
-    let here : s * b.«record».price ≤ 100000000 * 10000000 = mul-le-mul few r.of_record.price in
-    omega (arith, here, paid-few bs ss parts.1 within.1)
-
 module _ (v : View) (ranged : Ranged v) where
   -- no lawful surplus is above the ceiling
   surplus-few : (choice : ℕ) (sales : List ℕ) → Lawful v choice sales → surplus v choice sales ≤ℤ ceiling
   surplus-few choice sales lawful =
-      let income = paid-few v.bands sales ranged.bands lawful.within_quantities in
+      let income = income-few v.bands sales ranged.bands lawful.within_quantities in
       let costs = cost_between (taken v.packages choice) (taken-fits package_fits v.packages choice ranged.packages) in
       omega (arith, ints, income, costs.0, taken-few v.packages choice, ranged.few_packages, ranged.few_bands)
 

@@ -9,7 +9,7 @@ use Rattle.std.proofs.lemmas.Bool.{cases_lt}
 use Rattle.clearing.specs.declared.dockets.PricedPackage.{PricedPackage}
 use Rattle.clearing.specs.Choices.{taken, total, supplied, supply, cost}
 use Rattle.clearing.specs.Lawful.{View}
-use Rattle.clearing.proofs.Diminishing.{paid-added}
+use Rattle.clearing.proofs.Diminishing.{income-added}
 use Rattle.clearing.proofs.Filling.{ranged as ranges_of}
 use Rattle.clearing.proofs.Held.{no_package}
 use Rattle.clearing.proofs.Ranged.{Ranged, filled-most}
@@ -73,7 +73,7 @@ module _ (v : View) (ranged : Ranged v) (b : Span) (block : InDocket v b) where
       let alone = rw (add-zero b.first, zero-add (2 ^ i)) at (one_more i 0 free (pow_pos i)) in
       let few : i ≤ b.free = omega arith in
       let less = first_part v b block (b.first + r) (record { from = omega arith; below = omega (arith, low, pow_mono few) }) in
-      let income = paid-added v.bands ranged.order.numbers ranged.order.ahead (ranges_of v.bands ranged.bands)
+      let income = income-added v.bands ranged.order.numbers ranged.order.ahead (ranges_of v.bands ranged.bands)
       (λ m. supply m (taken ps (b.first + r))) (λ m. supply m (taken ps b.first)) (λ m. supplied m p.«record»)
       (λ m. supply m (taken ps (b.first + (r + 2 ^ i)))) (λ m. supply m (taken ps (b.first + 2 ^ i)))
       (λ m. added.amount _) (λ m. alone.amount _) (λ m. less.less _) in

@@ -4,7 +4,7 @@ use Rattle.std.specs.Int.{int_max, int_min}
 use Rattle.clearing.specs.declared.dockets.PricedPackage.{PricedPackage}
 use Rattle.clearing.specs.Choices.{taken, cost}
 use Rattle.clearing.specs.Judging.{pairs_met, groups_apart, zones_within}
-use Rattle.clearing.specs.Lawful.{View, paid, surplus, filled_sales}
+use Rattle.clearing.specs.Lawful.{View, income, surplus, filled_sales}
 use Rattle.bounds.specs.Blocks.{Span, Answers}
 
 -- the choice of a block that takes every free package
@@ -38,7 +38,7 @@ always v b = Some ceiling
 
 -- all-in: what the fixed and free packages together would earn, less the prices of the fixed, less the negative prices of the free
 abbrev pub all_in : Answers
-all_in v b = Some ((pos (paid v.bands (filled_sales v (last_of b))) -ℤ cost (fixed v b)) -ℤ below_zero (free_ones v b))
+all_in v b = Some ((pos (income v.bands (filled_sales v (last_of b))) -ℤ cost (fixed v b)) -ℤ below_zero (free_ones v b))
 
 -- what a choice is worth with filled sales, lawful or not
 abbrev pub unlimited : View → ℕ → ℤ

@@ -14,8 +14,12 @@ impl<P: BoundingRule, Q: BoundingRule> BoundingRule for Joined<P, Q> {
     ghost sound = { λ s v b closed block. smaller-sound v b _ _ (P.BoundingRule.sound s.0 v b closed block) (Q.BoundingRule.sound s.1 v b closed block) };
 
     fn consult(&mut self, docket: &Docket, block: Block) -> Option<i64> {
-        let cap = self.0.consult(docket, block)?;
-        let other_cap = self.1.consult(docket, block)?;
-        Some(cap.min(other_cap))
+        match self.0.consult(docket, block) {
+            Some(cap) => match self.1.consult(docket, block) {
+                Some(other_cap) => Some(cap.min(other_cap)),
+                None => None,
+            },
+            None => None,
+        }
     }
 }

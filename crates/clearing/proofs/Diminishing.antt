@@ -1,15 +1,14 @@
 -- What a supply adds to a greater one brings no more than what it adds to a smaller one, since later units go to bands of lower prices.
 use Rattle.std.proofs.Common.{◌≡◌, ℕ, zero, suc, ◌+◌, ◌≤◌, min, true, List, arith}
 use Rattle.std.specs.List.{AllByRecursion as Every}
-use Rattle.std.proofs.ByRecursion.{All-weaker}
 use Rattle.clearing.specs.declared.dockets.OpenBand.{OpenBand}
 use Rattle.clearing.specs.Bands.{rising, aheads, true_aheads}
 use Rattle.clearing.specs.Choices.{where_so}
-use Rattle.clearing.specs.Lawful.{paid}
+use Rattle.clearing.specs.Lawful.{market_income, income}
 use Rattle.clearing.proofs.Fits.{OpenRanges}
 use Rattle.clearing.proofs.FillingSums.{all_of, over, over_none, over-plus, wanted}
 use Rattle.clearing.proofs.FillingOrder.{at_least}
-use Rattle.clearing.proofs.Filling.{paid_all, pay_to, pay_cut, pay_more, pay_nothing, pay_next, pay_none, filled_of, filled-front}
+use Rattle.clearing.proofs.Filling.{pay_cut, pay_whole, pay_more, pay_nothing, filled_of, filled-front}
 
 -- two lists of sales come together to no more of an amount than two others
 abbrev Fewer : List OpenBand → List ℕ → List ℕ → List ℕ → List ℕ → (OpenBand → ℕ → ℕ) → Type 0
@@ -49,15 +48,12 @@ module _ (bs : List OpenBand) (rise : rising bs ≡ true) (ahead : aheads bs ≡
       fewer_plus bs _ _ _ _ (pay_cut m p) (λ b s. where_so (at_least m (suc p) b) s) (pay_cut m (suc p)) (all_of _ (pay_more m p) bs)
       (cut_added m p) (front-added m (suc p))
 
-  -- of the markets up to any
-  markets_added : (k : ℕ) → Added (pay_to k)
-  markets_added zero = fewer_none bs _ _ _ _ (pay_to 0) (All-weaker _ _ pay_none bs ranges)
-  markets_added (suc k) =
-      fewer_plus bs _ _ _ _ (pay_to k) (pay_cut (suc k) 10000000) (pay_to (suc k)) (All-weaker _ _ (pay_next k) bs ranges)
-      (markets_added k) (cut_added (suc k) 10000000)
+  -- of a market's income
+  market_income-added : (m : ℕ) → market_income bs (filled_of xa bs) m + market_income bs (filled_of y bs) m ≤ market_income bs (filled_of x bs) m + market_income bs (filled_of ya bs) m
+  market_income-added m =
+      let whole = λ (amount : ℕ → ℕ). pay_whole m bs (filled_of amount bs) ranges in
+      omega (arith, whole xa, whole y, whole x, whole ya, cut_added m 10000000)
 
-  -- and of all that is paid
-  pub paid-added : paid bs (filled_of xa bs) + paid bs (filled_of y bs) ≤ paid bs (filled_of x bs) + paid bs (filled_of ya bs)
-  paid-added =
-      let all = λ (amount : ℕ → ℕ). paid_all bs (filled_of amount bs) ranges in
-      omega (arith, all xa, all y, all x, all ya, markets_added 5)
+  -- and of the income of all markets
+  pub income-added : income bs (filled_of xa bs) + income bs (filled_of y bs) ≤ income bs (filled_of x bs) + income bs (filled_of ya bs)
+  income-added = omega (arith, market_income-added 1, market_income-added 2, market_income-added 3, market_income-added 4, market_income-added 5)

@@ -1,20 +1,19 @@
 -- The filled sales are the sales to take: they are lawful where any are, and no sales bring more.
-use Rattle.std.proofs.Common.{◌≡◌, ℕ, zero, suc, ◌+◌, ◌-◌, ◌*◌, ◌<◌, ◌≤◌, min, true, eqb, leb, List, [], ◌∷◌, map, ap, ◌∙◌, ap₂, ⊎_elim, mul-le-mul_left, arith}
+use Rattle.std.proofs.Common.{◌≡◌, ℕ, zero, suc, ◌+◌, ◌-◌, ◌*◌, ◌<◌, ◌≤◌, min, true, eqb, List, [], ◌∷◌, map, refl, sym, ap, ◌∙◌, ap₂, ⊎_elim, mul-le-mul_left, arith}
 use Rattle.std.specs.List.{AllByRecursion as Every}
-use Rattle.std.proofs.ByRecursion.{All-weaker}
 use Rattle.std.proofs.lemmas.Bool.{and_parts, eqb-true, cases_lt}
 use Rattle.std.proofs.lemmas.Bool.Decides.{nat_tests}
 use Rattle.clearing.specs.declared.dockets.OpenBand.{OpenBand}
 use Rattle.clearing.specs.Bands.{offered, comes_ahead, ahead_of, rising, aheads, true_aheads}
 use Rattle.clearing.specs.Choices.{taken, where_so, supply}
-use Rattle.clearing.specs.Filling.{PartsWithin, InOrder, BestFilled}
-use Rattle.clearing.specs.Lawful.{View, WithinQuantities, sold, paid, percentage, Lawful, filled_sales}
+use Rattle.clearing.specs.Filling.{PartsWithin, BestFilled}
+use Rattle.clearing.specs.Lawful.{View, WithinQuantities, sold, market_income, income, percentage, Lawful, filled_sales}
 use Rattle.clearing.specs.Ranges.{each, band_fits}
 use Rattle.clearing.specs.Sales.{filled}
 use Rattle.clearing.specs.Tallies.{row}
 use Rattle.clearing.proofs.Fits.{OpenRanges, open_ranges}
 use Rattle.clearing.proofs.FillingSums.{where_same, times_least, all_of, all_both, all_maps, total-same, total-map, row_getD, over, over-map, over_none, over-plus, sold_where, wanted, within-wanted}
-use Rattle.clearing.proofs.FillingOrder.{at_least, at_least-front, share, front-filled}
+use Rattle.clearing.proofs.FillingOrder.{InOrder, at_least, at_least-front, share, front-filled}
 
 -- the fields of bands in range
 pub ranged : (bs : List OpenBand) → each band_fits bs ≡ true → Every OpenRanges bs
@@ -39,22 +38,17 @@ sold_part m p (b ∷ bs) (s ∷ ss) =
     let here : where_so (at_least m p b) s ≤ where_so (eqb b.«record».market m) s = grind (arith, nat_tests) in
     omega (arith, here, sold_part m p bs ss)
 
--- what a band pays for a sale, if it is of the markets up to k
-abbrev pub pay_to : ℕ → OpenBand → ℕ → ℕ
-pay_to k b s = where_so (leb b.«record».market k) (s * b.«record».price)
-
--- what it pays if it is of market m, at its price or at p if that is less
+-- what a band pays for a sale if it is of market m, at its price or at p if that is less
 abbrev pub pay_cut : ℕ → ℕ → OpenBand → ℕ → ℕ
 pay_cut m p b s = where_so (eqb b.«record».market m) (s * min p b.«record».price)
 
--- all that is paid is paid in the markets up to the fifth
-pub paid_all : (bs : List OpenBand) (ss : List ℕ) → Every OpenRanges bs → paid bs ss ≡ over (pay_to 5) bs ss
-paid_all [] ss ranges = omega arith
-paid_all (b ∷ bs) [] ranges = omega arith
-paid_all (b ∷ bs) (s ∷ ss) ranges =
-    let r = ranges.0.of_record.market in
-    let here : s * b.«record».price ≡ pay_to 5 b s = grind (arith, nat_tests) in
-    omega (arith, here, paid_all bs ss ranges.1)
+-- no price is above the greatest, so with that cut the bands of a market pay its income
+pub pay_whole : (m : ℕ) (bs : List OpenBand) (ss : List ℕ) → Every OpenRanges bs → market_income bs ss m ≡ over (pay_cut m 10000000) bs ss
+pay_whole m [] ss ranges = refl
+pay_whole m (b ∷ bs) [] ranges = refl
+pay_whole m (b ∷ bs) (s ∷ ss) ranges =
+    let whole : min 10000000 b.«record».price ≡ b.«record».price = omega (arith, ranges.0.of_record.price) in
+    ap₂ (λ p n. where_so (eqb b.«record».market m) (s * p) + n) (sym whole) (pay_whole m bs ss ranges.1)
 
 -- each filled sale is within the quantity
 pub filled_small : (amounts : List ℕ) (bs : List OpenBand) → WithinQuantities bs (map (filled amounts) bs)
@@ -88,16 +82,6 @@ pub pay_nothing : (m : ℕ) (b : OpenBand) (s : ℕ) → pay_cut m 0 b s ≡ 0
 pay_nothing m b s =
     let nothing : min 0 b.«record».price ≡ 0 = omega arith in
     rw nothing (grind (arith, nat_tests))
-
--- with one market more, those of that market pay, whose prices are all within the cut
-pub pay_next : (k : ℕ) (b : OpenBand) → OpenRanges b → (s : ℕ) → pay_to (suc k) b s ≡ pay_to k b s + pay_cut (suc k) 10000000 b s
-pay_next k b r s =
-    let whole : min 10000000 b.«record».price ≡ b.«record».price = omega (arith, r.of_record.price) in
-    rw whole (grind (arith, nat_tests))
-
--- there is no market up to 0
-pub pay_none : (b : OpenBand) → OpenRanges b → (s : ℕ) → pay_to 0 b s ≡ 0
-pay_none b r s = let least = r.of_record.market_least in grind (arith, nat_tests)
 
 -- sales in d-th parts come to no more of an amount than others in whole units
 abbrev NoMore : ℕ → List OpenBand → List ℕ → List ℕ → (OpenBand → ℕ → ℕ) → Type 0
@@ -155,16 +139,13 @@ module _ (bs : List OpenBand) (amount : ℕ → ℕ) (rise : rising bs ≡ true)
         plus_more d bs ss (filled_of amount bs) (pay_cut m p) (λ b s. where_so (at_least m (suc p) b) s) (pay_cut m (suc p))
         (all_of _ (pay_more m p) bs) (cut_most m p) (front-most m (suc p))
 
-    -- nor of the markets up to any
-    markets_most : (k : ℕ) → NoMore d bs ss (filled_of amount bs) (pay_to k)
-    markets_most zero = none_more d bs ss (filled_of amount bs) (pay_to 0) (All-weaker _ _ pay_none bs ranges)
-    markets_most (suc k) =
-        plus_more d bs ss (filled_of amount bs) (pay_to k) (pay_cut (suc k) 10000000) (pay_to (suc k))
-        (All-weaker _ _ (pay_next k) bs ranges) (markets_most k) (cut_most (suc k) 10000000)
+    -- nor at whole prices
+    market_income-most : (m : ℕ) → market_income bs ss m ≤ d * market_income bs (filled_of amount bs) m
+    market_income-most m = rw (pay_whole m bs ss ranges, pay_whole m bs (filled_of amount bs) ranges) (cut_most m 10000000)
 
-    -- nor of all
-    paid-most : paid bs ss ≤ d * paid bs (filled_of amount bs)
-    paid-most = rw (paid_all bs ss ranges, paid_all bs (filled_of amount bs) ranges) (markets_most 5)
+    -- nor of all markets together
+    income-most : income bs ss ≤ d * income bs (filled_of amount bs)
+    income-most = omega (arith, market_income-most 1, market_income-most 2, market_income-most 3, market_income-most 4, market_income-most 5)
 
 -- what a choice supplies to a market
 abbrev supplies : View → ℕ → ℕ → ℕ
@@ -200,5 +181,5 @@ best-filled v choice order fit = record {
         certificates_after = omega (arith, l.certificates_after, more 5 (percentage v.limits 4));
       };
   most = λ d least ss parts few.
-      paid-most v.bands (supplies v choice) order.numbers order.ahead (ranged v.bands fit) d ss parts few;
+      income-most v.bands (supplies v choice) order.numbers order.ahead (ranged v.bands fit) d ss parts few;
 }

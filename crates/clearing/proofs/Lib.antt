@@ -9,6 +9,7 @@ pub mod Closings
 pub mod Tallying
 pub mod Addings
 pub mod Takings
+pub mod Incomes
 pub mod Sellings
 pub mod Tested
 pub mod Exclusions

@@ -3,10 +3,10 @@ use Rattle.std.proofs.Common.{◌≡◌, ℕ, ◌≤◌, true, List, length, ◌
 use Rattle.std.proofs.lemmas.Int.{ints}
 use Rattle.offers.specs.Tables.{pair_layout, exclusion_layout, limit_layout}
 use Rattle.clearing.specs.declared.dockets.Docket.{Docket}
-use Rattle.clearing.specs.Filling.{InOrder}
 use Rattle.clearing.specs.Lawful.{View, view, Lawful, surplus, filled_sales}
 use Rattle.clearing.specs.Ranges.{each, fits, package_fits, band_fits}
 use Rattle.clearing.proofs.Filling.{best-filled, parts_of_one}
+use Rattle.clearing.proofs.FillingOrder.{InOrder}
 
 pub record Ranged (v : View) : Type 0 where
   pub few_packages : length v.packages ≤ 40

@@ -8,10 +8,11 @@ use Rattle.clearing.specs.declared.tallies.Tally.{Tally}
 use Rattle.clearing.specs.declared.sales.Sales.{Sales}
 use Rattle.clearing.specs.Choices.{taken, where_so, supply, dated}
 use Rattle.clearing.specs.Kept.{Share, PairsKept, ExclusionsKept, ZonesKept, DatesKept}
-use Rattle.clearing.specs.Lawful.{View, view, sold, paid, percentage, Lawful, filled_sales}
-use Rattle.clearing.specs.Sales.{filled, sold_in, income, sales_of}
+use Rattle.clearing.specs.Lawful.{View, view, sold, income, percentage, Lawful, filled_sales}
+use Rattle.clearing.specs.Sales.{filled, sold_in, sales_of}
 use Rattle.clearing.specs.Tallies.{row, tally_of}
 use Rattle.clearing.proofs.Filling.{filled_small}
+use Rattle.clearing.proofs.Incomes.{income-filled}
 use Rattle.clearing.proofs.RowRules.{Same, all_both, row_at, pairs-same, exclusions-same, zones-same}
 use Rattle.clearing.proofs.Tallying.{Priced}
 use Rattle.clearing.proofs.Sellings.{Sold}
@@ -21,11 +22,6 @@ sold-filled : (supply : List ℕ) (bs : List OpenBand) (m : ℕ) → sold_in bs 
 sold-filled supply [] m = refl
 sold-filled supply (b ∷ bs) m =
     ap (λ n. where_so (eqb b.«record».market m) (filled supply b) + n) (sold-filled supply bs m)
-
--- and what is paid
-paid-filled : (supply : List ℕ) (bs : List OpenBand) → income bs supply ≡ paid bs (map (filled supply) bs)
-paid-filled supply [] = refl
-paid-filled supply (b ∷ bs) = ap (λ n. filled supply b * b.«record».price + n) (paid-filled supply bs)
 
 -- The rules as they are tested over a tally and what is sold by market.
 pub record Ruled (v : View) (t : Tally) (s : Sales) : Type 0 where
@@ -52,12 +48,12 @@ module _ (d : Docket) (choice : ℕ) where
         ∙ sold-filled t.supply (vec_items d.bands.list) m
         ∙ ap (λ t. sold (vec_items d.bands.list) (map (filled t.supply) (vec_items d.bands.list)) m) counted
 
-    -- all that is paid is the income
-    pub income-is : s.income ≡ paid (vec_items d.bands.list) sales
+    -- and what they bring is the income of all markets
+    pub income-is : s.income ≡ income (vec_items d.bands.list) sales
     income-is =
         ap (λ s. s.income) filled-so
-        ∙ paid-filled t.supply (vec_items d.bands.list)
-        ∙ ap (λ t. paid (vec_items d.bands.list) (map (filled t.supply) (vec_items d.bands.list))) counted
+        ∙ income-filled t.supply (vec_items d.bands.list)
+        ∙ ap (λ t. income (vec_items d.bands.list) (map (filled t.supply) (vec_items d.bands.list))) counted
 
     -- a share of what is sold in a market says the same over both, where a row has the dated supply at its place
     share-same : (xs : List ℕ) (f : ℕ → ℕ) (percent m : ℕ) → xs ≡ row f 1 5 → 1 ≤ m → m ≤ 5

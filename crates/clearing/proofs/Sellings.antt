@@ -1,17 +1,19 @@
 -- What the bands are sold, one band after another.
-use Rattle.std.proofs.Common.{◌≡◌, ℕ, ◌+◌, ◌-◌, ◌*◌, ◌<◌, ◌≤◌, true, eqb, leb, List, [], ◌∷◌, ◌++◌, length, get_or, take, set, vec_items, sym, ap, ◌∙◌, subst, ap₂, mul-le-mul, arith}
+use Rattle.std.proofs.Common.{◌≡◌, ℕ, ◌+◌, ◌-◌, ◌*◌, ◌<◌, ◌≤◌, true, eqb, leb, List, [], ◌∷◌, ◌++◌, map, length, get_or, take, set, vec_items, sym, ap, ◌∙◌, subst, ap₂, mul-le-mul, arith}
 use Rattle.std.proofs.lemmas.List.{length-take, take_more}
 use Rattle.clearing.specs.declared.dockets.OpenBand.{OpenBand}
 use Rattle.clearing.specs.declared.dockets.Docket.{Docket}
 use Rattle.clearing.specs.declared.sales.Sales.{Sales}
 use Rattle.clearing.specs.Choices.{where_so}
 use Rattle.clearing.specs.Ranges.{each, band_fits}
-use Rattle.clearing.specs.Sales.{filled, sold_in, income, sales_of}
+use Rattle.clearing.specs.Sales.{filled, sold_in, sales_of}
 use Rattle.clearing.specs.Tallies.{row}
 use Rattle.clearing.proofs.Fits.{each_take, each-most, OpenRanges, open_ranges}
+use Rattle.clearing.proofs.Filling.{filled_small}
 use Rattle.clearing.proofs.Held.{no_band, band_ranged}
+use Rattle.clearing.proofs.Incomes.{income-few, income-filled, income-last}
 use Rattle.clearing.proofs.Rows.{length-row, plus_one, plus_where, where_most}
-use Rattle.clearing.proofs.Totals.{total-append, total-most, totals_append, totals_most}
+use Rattle.clearing.proofs.Totals.{totals_append, totals_most}
 
 -- sales with so much more to a band
 abbrev pub with_sale : Sales → OpenBand → ℕ → Sales
@@ -49,9 +51,7 @@ module _ (supply : List ℕ) where
       plus_one before market (filled supply b) 1 5 (market - 1) long (omega arith) (omega arith)
       ∙ sym (plus_where true before here 1 5 long)
       ∙ sym (totals_append sold_amount bs (b ∷ []) 1 5) in
-      let paid : income bs supply + filled supply b * b.«record».price ≡ income (bs ++ b ∷ []) supply =
-      omega (arith, total-append (λ b. filled supply b * b.«record».price) bs (b ∷ [])) in
-      λ i. record { sold = sold i; income = paid i }
+      λ i. record { sold = sold i; income = sym (income-last supply bs b r) i }
 
   -- what at most 64 bands in range are sold
   pub sales-bounded : (bs : List OpenBand) → each band_fits bs ≡ true → length bs ≤ 64 → Sold (sales_of bs supply)
@@ -59,8 +59,7 @@ module _ (supply : List ℕ) where
     sold =
         totals_most band_fits sold_amount 64 100000000 6400000000 bs 1 5
         (λ m b e. where_most _ (filled supply b) 100000000 (filled-most b (open_ranges b e))) ok short (omega arith);
-    income =
-        omega (arith, total-most band_fits (λ b. filled supply b * b.«record».price) 1000000000000000 bs (λ b e. paid-most b (open_ranges b e)) ok);
+    income = omega (arith, income-filled supply bs, income-few bs (map (filled supply) bs) ok (filled_small supply bs));
   }
 
   -- so with all bands of a docket

@@ -22,6 +22,10 @@ total f (x ∷ xs) = f x + total f xs
 abbrev pub where_so : Bool → ℕ → ℕ
 where_so test amount = cond test amount 0
 
+-- the markets
+abbrev pub markets : List ℕ
+markets = 1 ∷ 2 ∷ 3 ∷ 4 ∷ 5 ∷ []
+
 -- what a package supplies to a market: power in its power zone (markets 1 to 3), energy (4) and certificates (5) everywhere
 abbrev pub supplied : ℕ → Package → ℕ
 supplied m p =

@@ -1,9 +1,8 @@
 -- Why the filled sales are the sales to take: they are lawful where any are, and bring most. Assumes nothing.
-use Rattle.std.specs.Prelude.{◌≡◌, ℕ, ◌*◌, ◌≤◌, true, List, [], ◌∷◌}
+use Rattle.std.specs.Prelude.{ℕ, ◌*◌, ◌≤◌, List, [], ◌∷◌}
 use Rattle.clearing.specs.declared.dockets.OpenBand.{OpenBand}
-use Rattle.clearing.specs.Bands.{rising, aheads, true_aheads}
 use Rattle.clearing.specs.Choices.{taken, supply}
-use Rattle.clearing.specs.Lawful.{View, Lawful, filled_sales, sold, paid}
+use Rattle.clearing.specs.Lawful.{View, Lawful, filled_sales, sold, income}
 
 -- each band is sold at most its quantity, counted in d-th parts of a unit
 abbrev pub PartsWithin : ℕ → List OpenBand → List ℕ → Type 0
@@ -12,11 +11,6 @@ PartsWithin d [] (s ∷ ss) = ⊥
 PartsWithin d (b ∷ bs) [] = ⊥
 PartsWithin d (b ∷ bs) (s ∷ ss) = (s ≤ d * b.«record».quantity) × PartsWithin d bs ss
 
--- a docket's bands as a closing makes them: by rising number, each with what stands ahead of it
-pub record InOrder (v : View) : Type 0 where
-  pub numbers : rising v.bands ≡ true
-  pub ahead : aheads v.bands ≡ true_aheads v.bands
-
 -- What the filled sales of a choice are among all sales of it.
 pub record BestFilled (v : View) (choice : ℕ) : Type 0 where
   -- they are lawful whenever any sales are
@@ -24,4 +18,4 @@ pub record BestFilled (v : View) (choice : ℕ) : Type 0 where
   -- no sales within quantities and supply, even of d-th parts of a unit, bring more
   pub most : (d : ℕ) → 1 ≤ d → (sales : List ℕ) → PartsWithin d v.bands sales
       → ((m : ℕ) → sold v.bands sales m ≤ d * supply m (taken v.packages choice))
-      → paid v.bands sales ≤ d * paid v.bands (filled_sales v choice)
+      → income v.bands sales ≤ d * income v.bands (filled_sales v choice)

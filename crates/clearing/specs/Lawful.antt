@@ -7,7 +7,7 @@ use Rattle.offers.specs.declared.records.Limit.{Limit}
 use Rattle.clearing.specs.declared.dockets.PricedPackage.{PricedPackage}
 use Rattle.clearing.specs.declared.dockets.OpenBand.{OpenBand}
 use Rattle.clearing.specs.declared.dockets.Docket.{Docket}
-use Rattle.clearing.specs.Choices.{taken, where_so, supply, dated, nameplates, exports, cost, has_number}
+use Rattle.clearing.specs.Choices.{taken, total, where_so, markets, supply, dated, nameplates, exports, cost, has_number}
 use Rattle.clearing.specs.Sales.{filled}
 use Rattle.clearing.specs.Tallies.{row}
 
@@ -45,11 +45,15 @@ sold [] ss m = 0
 sold (b ∷ bs) [] m = 0
 sold (b ∷ bs) (s ∷ ss) m = where_so (b.«record».market == m) s + sold bs ss m
 
--- what the bands pay, in pesos
-abbrev pub paid : List OpenBand → List ℕ → ℕ
-paid [] ss = 0
-paid (b ∷ bs) [] = 0
-paid (b ∷ bs) (s ∷ ss) = s * b.«record».price + paid bs ss
+-- the income of a market, in pesos: over its bands, sold times price
+abbrev pub market_income : List OpenBand → List ℕ → ℕ → ℕ
+market_income [] ss m = 0
+market_income (b ∷ bs) [] m = 0
+market_income (b ∷ bs) (s ∷ ss) m = where_so (b.«record».market == m) (s * b.«record».price) + market_income bs ss m
+
+-- the incomes of the markets together
+abbrev pub income : List OpenBand → List ℕ → ℕ
+income bands sales = total (market_income bands sales) markets
 
 -- the percentage that binds: the least of those that are set for it, or 100
 abbrev pub percentage : List Limit → ℕ → ℕ
@@ -81,9 +85,9 @@ pub record LawfulFor (v : View) (T : List PricedPackage) (sales : List ℕ) : Ty
 abbrev pub Lawful : View → ℕ → List ℕ → Type 0
 Lawful v choice sales = LawfulFor v (taken v.packages choice) sales
 
--- what a choice with its sales is worth: all that the bands pay, less the prices of the taken packages
+-- what a choice with its sales is worth: the income of all markets, less the prices of the taken packages
 abbrev pub surplus : View → ℕ → List ℕ → ℤ
-surplus v choice sales = pos (paid v.bands sales) -ℤ cost (taken v.packages choice)
+surplus v choice sales = pos (income v.bands sales) -ℤ cost (taken v.packages choice)
 
 -- the sales where none are named: the bands filled by falling price, equal prices by rising number
 abbrev pub filled_sales : View → ℕ → List ℕ

@@ -2,7 +2,7 @@
 use Rattle.std.specs.Prelude.{ℕ, ◌-◌, ◌*◌, min, cond, List, [], ◌∷◌, ◌==◌, slice_index}
 use Rattle.clearing.specs.declared.dockets.OpenBand.{OpenBand}
 use Rattle.clearing.specs.declared.sales.Sales.{Sales}
-use Rattle.clearing.specs.Choices.{total, where_so}
+use Rattle.clearing.specs.Choices.{total, where_so, markets}
 use Rattle.clearing.specs.Tallies.{row}
 
 -- what a band is sold of a supply by market, market m at place m - 1: what the bands ahead leave, up to its quantity
@@ -13,9 +13,13 @@ filled supply b = min (slice_index supply (b.«record».market - 1) - b.ahead) b
 abbrev pub sold_in : List OpenBand → List ℕ → ℕ → ℕ
 sold_in bands supply m = total (λ b. where_so (b.«record».market == m) (filled supply b)) bands
 
--- what all bands pay, in pesos
+-- the income of a market, in pesos: over its bands, sold times price
+abbrev pub income_in : List OpenBand → List ℕ → ℕ → ℕ
+income_in bands supply m = total (λ b. where_so (b.«record».market == m) (filled supply b * b.«record».price)) bands
+
+-- the incomes of the markets together
 abbrev pub income : List OpenBand → List ℕ → ℕ
-income bands supply = total (λ b. filled supply b * b.«record».price) bands
+income bands supply = total (income_in bands supply) markets
 
 abbrev pub sales_of : List OpenBand → List ℕ → Sales
 sales_of bands supply = record { sold = row (sold_in bands supply) 1 5; income = income bands supply }

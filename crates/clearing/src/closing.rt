@@ -1,6 +1,7 @@
 // Closing: the open records are copied into the docket, and each package is priced.
-ghost use Rattle.std.specs.Prelude.{◌≡◌, ℕ, ◌+◌, ◌-◌, ◌≤◌, true, ◌&&◌, ◌||◌, map, pos, IfOk, Ok, Err, MatchResult, ◌==◌, nat_lt, slice_index_or};
+ghost use Rattle.std.specs.Prelude.{◌≡◌, ℕ, ◌+◌, ◌-◌, ◌≤◌, true, ◌&&◌, ◌||◌, map, pos, IfOk, IfErr, Ok, Err, MatchResult, ◌==◌, nat_lt, slice_index_or};
 ghost use Rattle.offers.specs.Memory.{held};
+ghost use Rattle.offers.specs.Refusals.{Carries};
 ghost use Rattle.offers.specs.declared.records.Package.{Package as Rated};
 ghost use Rattle.offers.specs.declared.registers.Entry.TheVariants.{Vacant, Open};
 ghost use Rattle.clearing.specs.Bands.{ahead_of};
@@ -49,6 +50,7 @@ impl Docket {
         ensures after { view self.new ≡ (closing (view self.old) (held offers.now) (P.PriceRule.meaning rule.old)).left }
         ensures same_rule { P.PriceRule.meaning rule.new ≡ P.PriceRule.meaning rule.old }
         ensures by_closing { result ≡ Ok tt → ByClosing (view self.new) }
+        ensures carries { IfErr result Carries }
     {
         let prices = price_all(&offers.packages, rule)?;
         copy_packages(&offers.packages, &prices, &mut self.packages);
@@ -66,6 +68,7 @@ fn price_all<P: PriceRule>(ledger: &Ledger<Package, 40>, rule: &mut P) -> Result
     ensures fit { IfOk result (λ ps. each price_fits ps ≡ true) }
     ensures answer { MatchResult result (λ ps. (k : ℕ) (p : Rated) → slice_index_or ledger.now.entries k Vacant ≡ Open p → P.PriceRule.meaning rule.old p ≡ Ok (slice_index_or ps k (pos 0))) (λ e. priced (P.PriceRule.meaning rule.old) (open_from 1 ledger.now.entries) ≡ Err e) }
     ensures same_rule { P.PriceRule.meaning rule.new ≡ P.PriceRule.meaning rule.old }
+    ensures carries { IfErr result Carries }
 {
     let mut prices = [0i64; 40];
     for (i, entry) in ledger.entries.iter().enumerate() {

@@ -1,5 +1,5 @@
 -- The ranges of the price rules' own numbers, and their refusal. Assumes nothing.
-use Rattle.std.specs.Prelude.{ℕ, Bool, ◌&&◌, List, ℤ, pos, negsuc, int_le}
+use Rattle.std.specs.Prelude.{◌≡◌, ℕ, Bool, true, false, ◌&&◌, List, ℤ, pos, negsuc, int_le, Ok, Err, Result}
 use Rattle.std.specs.List.{list_all}
 use Rattle.offers.specs.declared.refusals.Code.TheVariants.{FieldOutside}
 use Rattle.offers.specs.declared.refusals.Refusal.{Refusal}
@@ -20,3 +20,8 @@ currency_rates preference expectation = within 10000 11000 preference && within 
 -- a number of a rule out of its range: the code alone
 abbrev pub refused_number : Refusal
 refused_number = refused_at FieldOutside 0 0 0
+
+-- what a check answers of a rule's numbers: those in range, made into what holds them; others are refused with the code alone
+abbrev pub MadeIf : {X : Type 0} → Result X Refusal → Bool → (X → Type 0) → Type 0
+MadeIf (Ok made) in_range Holds = (in_range ≡ true) × Holds made
+MadeIf (Err refusal) in_range Holds = (in_range ≡ false) × (refusal ≡ refused_number)

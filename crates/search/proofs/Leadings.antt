@@ -3,15 +3,14 @@ use Rattle.std.proofs.Common.{◌≡◌, ℕ, ◌+◌, ◌^◌, ◌<◌, ◌≤�
 use lib.Signed.{le_z, lt_z}
 use Rattle.std.proofs.lemmas.Int.{ints}
 use Rattle.std.proofs.lemmas.Bool.{cond_both, both_ways}
-use Rattle.std.proofs.lemmas.Bool.Decides.{nat_tests}
 use Rattle.clearing.specs.declared.dockets.PricedPackage.{PricedPackage}
-use Rattle.clearing.specs.declared.dockets.OpenBand.{OpenBand}
 use Rattle.clearing.specs.Choices.{taken, supply}
 use Rattle.clearing.specs.Judging.{worth_of}
-use Rattle.clearing.specs.Lawful.{View, WithinQuantities, LawfulFor, Lawful, Worth, sold, paid, surplus, filled_sales, choices}
+use Rattle.clearing.specs.Lawful.{View, WithinQuantities, LawfulFor, Lawful, Worth, sold, surplus, filled_sales, choices}
 use Rattle.clearing.specs.Tallies.{row}
 use Rattle.clearing.proofs.Filling.{filled_small, filled_within}
 use Rattle.clearing.proofs.FillingSums.{all_of}
+use Rattle.clearing.proofs.Incomes.{income-none}
 use Rattle.clearing.proofs.Ranged.{Ranged, filled-most}
 use Rattle.bounds.specs.Blocks.{Span, Answers, InDocket, InBlock, Claims}
 use Rattle.search.specs.Search.{Standing, Placed, Leads, start, next_block, hopeless, settle, lead, step}
@@ -21,15 +20,6 @@ use Rattle.search.proofs.Placings.{step_cases}
 taken_none : (ps : List PricedPackage) → taken ps 0 ≡ []
 taken_none [] = refl
 taken_none (p ∷ ps) = taken_none ps
-
--- where nothing is sold, nothing is paid
-unsold_unpaid : (bs : List OpenBand) (ss : List ℕ) → ((m : ℕ) → sold bs ss m ≤ 0) → paid bs ss ≡ 0
-unsold_unpaid [] ss none = refl
-unsold_unpaid (b ∷ bs) [] none = refl
-unsold_unpaid (b ∷ bs) (s ∷ ss) none =
-    let all = none b.«record».market in
-    let here : s ≡ 0 = grind (arith, nat_tests) in
-    rw here (omega (arith, unsold_unpaid bs ss (λ m. omega (arith, none m))))
 
 -- to take nothing is lawful with sales of nothing
 none_lawful : (v : View) (sales : List ℕ) → WithinQuantities v.bands sales → ((m : ℕ) → sold v.bands sales m ≤ 0) → LawfulFor v [] sales
@@ -104,7 +94,7 @@ module _ (v : View) (ranged : Ranged v) where
           same_choice v 0 other sales (surplus v 0 (filled_sales v 0)) (omega arith) (filled-most v ranged 0 sales) lawful;
       earliest = λ other sales below lawful same. omega arith;
     };
-    worth = rw (unsold_unpaid v.bands (filled_sales v 0) none_sold, taken_none v.packages) refl;
+    worth = rw (income-none v.bands (filled_sales v 0) none_sold, taken_none v.packages) refl;
   }
 
   -- one choice more is settled under the same leader if it is not worth more

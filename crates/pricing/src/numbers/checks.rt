@@ -1,6 +1,7 @@
 // The checks that make a rule's numbers, and how they are read.
-ghost use Rattle.std.specs.Prelude.{◌≡◌, ◌-◌, ◌*◌, true, false, pos, ◌≤ℤ◌, Ok, Err, slice_index_or};
-ghost use Rattle.pricing.specs.Numbers.{zone_numbers, currency_rates, refused_number};
+ghost use Rattle.std.specs.Prelude.{◌≡◌, ◌-◌, ◌*◌, pos, ◌≤ℤ◌, IfErr, slice_index_or};
+ghost use Rattle.offers.specs.Refusals.{Carries};
+ghost use Rattle.pricing.specs.Numbers.{zone_numbers, currency_rates, MadeIf};
 
 use crate::numbers::{Rates, ZoneNumbers};
 use offers::refusals::{Code, Refusal};
@@ -8,7 +9,8 @@ use offers::refusals::{Code, Refusal};
 impl ZoneNumbers {
     // Numbers of -1,000 to 1,000 each, or a refusal.
     pub fn new(numbers: [i64; 16]) -> Result<ZoneNumbers, Refusal>
-        ensures { elim result [ Ok z ↦ (zone_numbers numbers ≡ true) × (z.numbers ≡ numbers) | Err e ↦ (zone_numbers numbers ≡ false) × (e ≡ refused_number) ] }
+        ensures answer { MadeIf result (zone_numbers numbers) (λ z. z.numbers ≡ numbers) }
+        ensures carries { IfErr result Carries }
     {
         if !numbers
             .iter()
@@ -19,7 +21,7 @@ impl ZoneNumbers {
         Ok(ZoneNumbers { numbers })
     }
 
-    // The number of a zone, 0 where there is no such zone.
+    // The number of a zone, 1 to 16, as records in range have them. Zone 0 gets zone 1's number, and a zone past 16 gets 0.
     pub fn of_zone(&self, zone: u8) -> i64
         ensures { result ≡ slice_index_or self.now.numbers (zone - 1) (pos 0) }
     {
@@ -31,7 +33,9 @@ impl ZoneNumbers {
 impl Rates {
     // A preference of 10,000 to 11,000 and an expectation of 5,000 to 20,000, or a refusal.
     pub fn new(preference: u32, expectation: u32) -> Result<Rates, Refusal>
-        ensures { elim result [ Ok z ↦ (currency_rates preference expectation ≡ true) × ((z.preference ≡ preference) × (z.expectation ≡ expectation)) | Err e ↦ (currency_rates preference expectation ≡ false) × (e ≡ refused_number) ] }
+        ensures answer { MadeIf result (currency_rates preference expectation)
+            (λ r. (r.preference ≡ preference) × (r.expectation ≡ expectation)) }
+        ensures carries { IfErr result Carries }
     {
         if !(10_000..=11_000).contains(&preference) || !(5_000..=20_000).contains(&expectation) {
             return Err(Refusal::of(Code::FieldOutside));

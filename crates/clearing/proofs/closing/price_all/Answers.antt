@@ -1,5 +1,5 @@
 -- `price_all`: what a rule answers is in range by its law, and the first fault refuses.
-use Rattle.std.proofs.Common.{set, Err, sym, ap, ◌∙◌, subst, arith}
+use Rattle.std.proofs.Common.{set, Err, sym, refl, ap, ◌∙◌, subst, arith}
 use Rattle.pricing.specs.Prices.{Bounded}
 use Rattle.clearing.proofs.Fits.{price-from, price-stored}
 use Rattle.clearing.proofs.Pricings.{none_priced, one_priced, refused_at}
@@ -33,4 +33,5 @@ returns-in-Err g c =
           refused_at _ c.args.ledger.now.entries c.loop-i.prices c.loop-i.i c.in-Open.package c.in-Err.fault inv.so c.in-Open.is fault
           ∙ ap Err (sym c.price_fault.ensures);
       same_rule = c.price.ensures.same ∙ inv.same;
+      carries = rw c.price_fault.ensures (record { tag = tt; number = tt; field = refl; byte = refl; depth = tt });
     }

@@ -3,13 +3,13 @@ use Rattle.std.proofs.Common.{ℕ, List, pos, ◌-ℤ◌, Some, None, sym, refl,
 use Rattle.std.proofs.lemmas.Int.{ints}
 use Rattle.std.proofs.lemmas.Bool.Decides.{not_from_Decides}
 use Rattle.clearing.specs.declared.dockets.Docket.{Docket}
-use Rattle.clearing.specs.Filling.{InOrder}
 use Rattle.clearing.specs.Judging.{worth_of}
 use Rattle.clearing.specs.Lawful.{view, Lawful, Worth}
 use Rattle.clearing.proofs.Tallying.{Bounded, Priced}
 use Rattle.clearing.proofs.Takings.{taken-bounded, taken-priced}
 use Rattle.clearing.proofs.Sellings.{Sold, sold_in_all}
 use Rattle.clearing.proofs.Filling.{best-filled, filled_within}
+use Rattle.clearing.proofs.FillingOrder.{InOrder}
 use Rattle.clearing.proofs.Ranged.{ranged_docket}
 use Rattle.clearing.proofs.Judged.{worth_tells, worth-once}
 use Rattle.clearing.proofs.Ruled.{Ruled, lawful-from, ruled_from, income-is, worth-stored}

@@ -1,7 +1,7 @@
 -- `consult` of all-in: what the bands pay and what the packages cost have room in 64 bits.
 use Rattle.std.proofs.Common.{Some, vec_items, sym, refl, ap, ◌∙◌, subst, arith}
 use Rattle.std.proofs.lemmas.Int.{ints}
-use Rattle.clearing.specs.Lawful.{view, paid, filled_sales}
+use Rattle.clearing.specs.Lawful.{view, income, filled_sales}
 use Rattle.clearing.proofs.Ruled.{income-is}
 use Rattle.clearing.proofs.Sellings.{Sold, sold_in_all}
 use Rattle.bounds.proofs.all_in.AllInBoundingRule.consult.Goals as goal
@@ -20,11 +20,11 @@ pub returns : goal.returns
 returns c =
     let d = c.args.docket.now in
     let sold = subst Sold (sym c.sell-sales.ensures) (sold_in_all c.of-all.result.supply d) in
-    let income =
+    let brings =
     income-is d c.last.result c.of-all.result c.sell-sales.result c.of-all.ensures c.sell-sales.ensures
-    ∙ ap (λ choice. paid (vec_items d.bands.list) (filled_sales (view d) choice)) c.last.ensures in
+    ∙ ap (λ choice. income (vec_items d.bands.list) (filled_sales (view d) choice)) c.last.ensures in
     let costs = c.least_cost.ensures in
     record {
-      answer = λ block. ap Some (omega (arith, ints, income, sold.income, costs.value, costs.low, costs.high));
+      answer = λ block. ap Some (omega (arith, ints, brings, sold.income, costs.value, costs.low, costs.high));
       same = refl;
     }

@@ -37,4 +37,5 @@ returns g c =
         bounded = g.met.P.PriceRule.bounded c.args.rule.now;
         accepted = closing-priced nothing_open all meaning ps prices-are ∙ ap (λ v. record { answer = Ok tt; left = v }) (sym docket);
       };
+      carries = tt;
     }
