@@ -45,7 +45,7 @@ closing_more calls v was call none = record {
   price = was.price;
   later = was.later ++ call ∷ [];
   so = ap (λ (xs : List Call). xs ++ call ∷ []) was.so ∙ append_assoc was.before (Close was.price ∷ was.later) (call ∷ []);
-  taken = was.taken;
+  was_open = was.was_open;
   open_then = was.open_then;
   last =
       let here = since_closing was.before was.later was.price ∙ ap after (sym was.so) in
@@ -61,7 +61,7 @@ closing_now calls v price is-open made = record {
   price = price;
   later = [];
   so = refl;
-  taken = is-open;
+  was_open = is-open;
   open_then = made;
   last = refl;
 }

@@ -9,11 +9,11 @@ use Rattle.rounds.specs.declared.requests.Request.{Request}
 use Rattle.rounds.specs.declared.requests.Request.TheVariants as request
 use Rattle.rounds.specs.Requests.{call_of}
 use Rattle.rounds.specs.Model.{beginning, after_from, after, Stepped, Call, Model, step}
-use Rattle.rounds.specs.Promises.{LawfulCall, Promise, Promised, Fair}
+use Rattle.rounds.specs.Promises.{LawfulCall, Promise, Promised, Keeps}
 use Rattle.rounds.specs.Views.{Continues, Serves}
 use Rattle.rounds.proofs.Histories.{after_append, after_more}
 use Rattle.rounds.proofs.Runs.{promised}
-use Rattle.rounds.proofs.Fairness.{fair_step}
+use Rattle.rounds.proofs.Keepings.{keeps_step}
 
 lawful_append : (xs ys : List Call) → Every LawfulCall xs → Every LawfulCall ys → Every LawfulCall (xs ++ ys)
 lawful_append [] ys laws more = more
@@ -32,7 +32,7 @@ continues before call s law e calls laws at =
 
 -- and so it owes nothing more
 pub serves : (before : Model) (call : Call) (s : Stepped) → LawfulCall call → s ≡ step before call → Serves before call s
-serves before call s law e = record { step = e; fair = subst (Fair before call) (sym e) (fair_step before call); run = continues before call s law e }
+serves before call s law e = record { step = e; keeps = subst (Keeps before call) (sym e) (keeps_step before call); run = continues before call s law e }
 
 lawful_again : (call : Call) (n : ℕ) → LawfulCall call → Every LawfulCall (replicate n call)
 lawful_again call zero law = tt
@@ -72,5 +72,5 @@ lawful_first (call ∷ before) later laws = (laws.0, lawful_first before later l
 pub promised_all : (calls : List Call) → Every LawfulCall calls → Promised calls
 promised_all calls laws = record {
   kept = λ before later e. promised before (lawful_first before later (subst (λ (xs : List Call). Every LawfulCall xs) e laws));
-  fair = λ before later call e. fair_step (after before) call;
+  each = λ before later call e. keeps_step (after before) call;
 }

@@ -1,7 +1,8 @@
 pub mod Entered
 pub mod Dockets
+pub mod Rows
 pub mod Searches
 pub mod Histories
 pub mod Runs
-pub mod Fairness
+pub mod Keepings
 pub mod Kept

@@ -26,14 +26,15 @@ use Rattle.clearing.specs.Closing.{Meaning, open_from, priced, docket_with, clos
 use Rattle.clearing.specs.Lawful.{View, nothing_open, choices}
 use Rattle.clearing.proofs.ClosedRanges.{ranged-closing}
 use Rattle.bounds.specs.Blocks.{SoundRule}
-use Rattle.search.specs.Search.{Standing, Placed, Leads, finished, steps}
+use Rattle.search.specs.Search.{Standing, Placed, Leading, Leads, finished, steps}
 use Rattle.search.proofs.Placings.{start-placed}
 use Rattle.search.proofs.Leadings.{start-leads}
 use Rattle.rounds.specs.Model.{NotTaken, Reopened, told, award, written, Call, File, Withdraw, CatchUp, Close, Search, Reopen, ReadAward, WriteSheet, Answer, State, IsOpen, IsClosed, IsAwarded, Model, model, Stepped, accepted, step_in, step, beginning, after}
-use Rattle.rounds.specs.Promises.{LawfulCall, withdraws, withdrawn, closes, LastClosing, Leading, Promise, PromiseIn}
+use Rattle.rounds.specs.Promises.{LawfulCall, withdraws, withdrawn, closes, LastClosing, Promise, PromiseIn}
 use Rattle.rounds.proofs.Entered.{vacant_sound, filed_sound, withdrawn_sound, caught_sound}
 use Rattle.rounds.proofs.Dockets.{made, made_by, none_taken}
 use Rattle.rounds.proofs.Searches.{steps_placed, steps_lead, settles}
+use Rattle.rounds.proofs.Rows.{sales_of_row}
 use Rattle.rounds.proofs.Histories.{after_more, some_more, closing_more, closing_now}
 
 -- the entry of package i + 1 is withdrawn
@@ -267,15 +268,11 @@ holds_on calls (call ∷ more) laws h =
 pub holds : (calls : List Call) → Every LawfulCall calls → Holds calls (after calls)
 holds calls laws = holds_on [] calls laws (record { sound = vacant_sound; gone = λ i no. absurd (true≢false (sym no)); in_state = tt })
 
--- what the leader is among the settled choices
-leading : (v : View) (at : Standing) → Leads v at → Leading v at.settled at
-leading v at leads = record { best = leads.best; worth = leads.worth }
-
 kept : (calls : List Call) (all : Entries) (s : State) → InState calls s → PromiseIn calls (model all s) s
 kept calls all IsOpen h = tt
 kept calls all (IsClosed v at) h = record {
   closing = h.closing;
-  leader = leading v at h.leads;
+  leader = h.leads;
   goes_on = λ below more none enough.
       settles all v at at 0 more h.placed below (record { lasts = omega arith; smaller = λ _. omega arith }) none (omega arith);
 }
@@ -283,7 +280,8 @@ kept calls all (IsAwarded v at) h = record {
   closing = h.0.closing;
   none_withdrawn = λ n said. none_taken n v.packages at.leader (h.0.without n said);
   all_settled = h.1;
-  award = subst (λ (bound : ℕ). Leading v bound at) h.1 (leading v at h.0.leads);
+  award = subst (λ (bound : ℕ). Leading v bound at) h.1 h.0.leads;
+  sales = sales_of_row v at.leader (ranged-closing v h.0.closed);
 }
 
 -- The promise of every run.

@@ -48,7 +48,7 @@ pub data Answer : Type 0 where
   -- a call that this state of a round does not take
   NotTaken : Answer
 
--- an answer without a code
+-- an answer without a code, to a call that the state takes
 abbrev pub accepted : Answer → Bool
 accepted (Done r) = is_ok r
 accepted (Found r) = is_ok r
@@ -63,6 +63,7 @@ pub data State : Type 0 where
   IsClosed : View → Standing → State
   IsAwarded : View → Standing → State
 
+-- A plain round: the entries of all kinds, and its state.
 pub record Model : Type 0 where
   pub entries : Entries
   pub state : State

@@ -1,20 +1,23 @@
--- What is promised of a round, in words of the subject. Nothing here searches. Assumes nothing.
-use Rattle.std.specs.Prelude.{◌≡◌, ℕ, ◌+◌, ◌<◌, ◌≤◌, Bool, true, false, cond, ◌&&◌, List, [], ◌∷◌, ◌++◌, length, Ok, Err, Some, None, Option, ◌==◌}
+-- What is promised of a round, in words of the subject. Nothing here says how a search goes. Assumes nothing.
+use Rattle.std.specs.Prelude.{◌≡◌, ℕ, ◌+◌, ◌-◌, ◌<◌, ◌≤◌, Bool, true, false, cond, ◌&&◌, List, [], ◌∷◌, ◌++◌, map, length, Ok, Err, Some, None, Option, ◌==◌, slice_index_or}
 use Rattle.offers.specs.declared.memory.Kind.{Kind}
 use Rattle.offers.specs.declared.memory.Kind.TheVariants as kind
 use Rattle.offers.specs.declared.records.Package.{Package}
 use Rattle.offers.specs.declared.refusals.Refusal.{Refusal}
+use Rattle.offers.specs.Memory.{entries_of}
 use Rattle.offers.specs.Refusals.{Carries}
+use Rattle.offers.specs.Registers.{Onward}
+use Rattle.offers.specs.declared.registers.Entry.TheVariants.{Vacant}
 use Rattle.pricing.specs.Prices.{Bounded}
 use Rattle.sheets.specs.Laws.{says_withdrawn}
 use Rattle.clearing.specs.Choices.{taken, has_number}
 use Rattle.clearing.specs.Closing.{Meaning, closing}
-use Rattle.clearing.specs.Lawful.{View, BestBelow, nothing_open, surplus, filled_sales, choices}
+use Rattle.clearing.specs.Lawful.{View, nothing_open, filled_sales, choices}
 use Rattle.bounds.specs.Blocks.{SoundRule}
-use Rattle.search.specs.Search.{Standing}
-use Rattle.rounds.specs.Model.{Call, File, Withdraw, CatchUp, Close, Search, Reopen, ReadAward, WriteSheet, Answer, Done, Found, Reopened, Awarded, Written, NotTaken, State, IsOpen, IsClosed, IsAwarded, Model, Stepped, accepted, step, beginning, after_from, after, some_accepted}
+use Rattle.search.specs.Search.{Standing, Leading}
+use Rattle.rounds.specs.Model.{Call, File, Withdraw, CatchUp, Close, Search, Reopen, ReadAward, WriteSheet, Answer, Done, Found, Reopened, Awarded, Written, NotTaken, State, IsOpen, IsClosed, IsAwarded, Model, Stepped, accepted, sold_row, step, beginning, after_from, after, some_accepted}
 
--- a call whose rule, if it has one, shows its law: prices in range, or answers that are true of every block
+-- a call whose rule, if it has one, shows its law: prices in range, or answers that are true of every block of every docket that a closing makes
 abbrev pub LawfulCall : Call → Type 0
 LawfulCall (File n offer) = Unit {0}
 LawfulCall (Withdraw k n) = Unit {0}
@@ -75,17 +78,11 @@ pub record LastClosing (calls : List Call) (docket : View) : Type 0 where
   pub later : List Call
   pub so : calls ≡ before ++ Close price ∷ later
   -- the round was open when it came
-  pub taken : (after before).state ≡ IsOpen
+  pub was_open : (after before).state ≡ IsOpen
   -- it was accepted, and made the docket of the entries that the calls before it had left
   pub open_then : closing nothing_open (after before).entries price ≡ record { answer = Ok tt; left = docket }
   -- no later closing was accepted
   pub last : some_accepted closes (after (before ++ Close price ∷ [])) later ≡ false
-
--- The leader is the best lawful choice among those numbered below a bound, whatever sales the others are given, the earliest among equals.
-pub record Leading (docket : View) (bound : ℕ) (at : Standing) : Type 0 where
-  pub best : BestBelow docket bound at.leader
-  -- and its surplus is known: what it earns with filled sales, less its prices
-  pub worth : at.surplus ≡ surplus docket at.leader (filled_sales docket at.leader)
 
 -- the steps that a call is given, if it is an accepted search
 abbrev pub steps_of : Call → Bool → ℕ
@@ -119,6 +116,8 @@ pub record OfAward (calls : List Call) (docket : View) (at : Standing) : Type 0 
   pub all_settled : at.settled ≡ choices docket
   -- and the award is the best lawful choice of all, from the offers open at the closing
   pub award : Leading docket (choices docket) at
+  -- with the sales that the award's row has under the number of each open band
+  pub sales : map (λ b. slice_index_or (sold_row docket at.leader) (b.number - 1) 0) docket.bands ≡ filled_sales docket at.leader
 
 -- Of a round that is closed and not yet awarded; `round` is what the calls left.
 pub record OfSearch (calls : List Call) (round : Model) (docket : View) (at : Standing) : Type 0 where
@@ -164,7 +163,7 @@ lent_with Reopen = []
 lent_with (ReadAward lent) = lent
 lent_with (WriteSheet buffer) = buffer
 
--- what an answer leaves of it
+-- what an answer leaves of it; a row or buffer that comes with a call that is not taken is not given back
 abbrev pub lent_back : Answer → List ℕ
 lent_back (Done r) = []
 lent_back (Found r) = []
@@ -173,18 +172,19 @@ lent_back (Awarded r row) = row
 lent_back (Written r buffer) = buffer
 lent_back NotTaken = []
 
--- What every call owes where it is not accepted.
-pub record Fair (before : Model) (call : Call) (s : Stepped) : Type 0 where
-  -- the round is as it was
+-- What every call keeps.
+pub record Keeps (before : Model) (call : Call) (s : Stepped) : Type 0 where
+  -- no offer number goes back, and a record never changes
+  pub onward : (k : Kind) (i : ℕ) → Onward (slice_index_or (entries_of before.entries k) i Vacant) (slice_index_or (entries_of s.left.entries k) i Vacant)
+  -- a call that is not accepted leaves the round as it was
   pub unchanged : accepted s.answer ≡ false → s.left ≡ before
-  -- after a refusal, so is the row or buffer that was lent
+  -- a refusal leaves the row or buffer that was lent as it was, and carries no more than its code does
   pub lent : (e : Refusal) → refusal_in s.answer ≡ Some e → lent_back s.answer ≡ lent_with call
-  -- and the refusal carries no more than its code does
   pub carries : (e : Refusal) → refusal_in s.answer ≡ Some e → Carries e
 
 -- The promise of a whole run.
 pub record Promised (calls : List Call) : Type 0 where
   -- after each of its calls, what is promised of the round that they led to so far
   pub kept : (before later : List Call) → calls ≡ before ++ later → Promise before (after before)
-  -- and each call is fair
-  pub fair : (before later : List Call) (call : Call) → calls ≡ before ++ call ∷ later → Fair (after before) call (step (after before) call)
+  -- and what every call keeps, each of them kept
+  pub each : (before later : List Call) (call : Call) → calls ≡ before ++ call ∷ later → Keeps (after before) call (step (after before) call)

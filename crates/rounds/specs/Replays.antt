@@ -22,7 +22,7 @@ moment_of m = record { answer = answer_of m.reply; entries = held m.offers; stag
 pub record Replays (calls : List Call) (run : Run) : Type 0 where
   -- the round in the end is the plain one
   pub left : of_round run.round ≡ after calls
-  -- and so is each moment: the answer, with its row or buffer, and right after it the entries and where the round stands
+  -- and so is each moment: the answer, with its row or buffer, and right after it the entries and where the round stands, but for its docket
   pub moments : map moment_of (vec_items run.moments) ≡ moments_from beginning calls
   -- what is promised of the run
   pub promised : Promised calls

@@ -13,7 +13,7 @@ use Rattle.rounds.specs.declared.awarded_round.AwardedRound.{AwardedRound}
 use Rattle.rounds.specs.declared.closed_round.Searched.{Searched}
 use Rattle.rounds.specs.declared.closed_round.Searched.TheVariants as searched
 use Rattle.rounds.specs.Model.{step, Call, Search, Answer, State, IsOpen, IsClosed, IsAwarded, Model, model, Stepped, Done, after_from, after}
-use Rattle.rounds.specs.Promises.{LawfulCall, Promise, Fair}
+use Rattle.rounds.specs.Promises.{LawfulCall, Promise, Keeps}
 
 abbrev pub of_open : OpenRound → Model
 of_open r = model (held r.offers) IsOpen
@@ -45,8 +45,11 @@ gave_closing (Err e) = gave (of_open e.0) (Done (Err e.1))
 
 -- What one call more adds to a run: the plain round comes to the same, and the promise holds of the round.
 pub record OneMore (calls : List Call) (call : Call) (s : Stepped) : Type 0 where
+  -- what is left is what the calls and this one lead to
   pub left : s.left ≡ after (calls ++ call ∷ [])
+  -- the answer is that of the plain round which the calls led to
   pub answer : s.answer ≡ (step (after calls) call).answer
+  -- and what is promised is promised of what is left
   pub promise : Promise (calls ++ call ∷ []) s.left
 
 -- So it is of every run of calls with lawful rules that led to the round.
@@ -57,8 +60,8 @@ Continues before call s = (calls : List Call) → Every LawfulCall calls → aft
 pub record Serves (before : Model) (call : Call) (s : Stepped) : Type 0 where
   -- answer, next state and every buffer are those of the plain round
   pub step : s ≡ step before call
-  -- where it is not accepted, all stays as it was
-  pub fair : Fair before call s
+  -- no entry goes back, and a call that is not accepted alters nothing
+  pub keeps : Keeps before call s
   -- and what is promised of a run that led to the round is promised of it with this call added
   pub run : Continues before call s
 
@@ -67,8 +70,9 @@ abbrev pub Falls : Searched → Position → Type 0
 Falls (searched.Closed r) from = left r.at < left from
 Falls (searched.Awarded r) from = Unit {0}
 
--- A closed round is searched to its end: so many accepted searches under a rule, of so many steps each, lead to what is left.
+-- A closed round is searched to its end.
 pub record Finishes (before : Model) (rule : Answers) (left : Model) : Type 0 where
+  -- so many searches under a rule, each of so many steps, a number that a search takes, lead to what is left
   pub searches : ℕ
   pub steps : ℕ
   pub some : 1 ≤ steps

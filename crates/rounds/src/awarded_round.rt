@@ -1,5 +1,6 @@
 // An awarded round: its search has settled every choice, and the leader is the award.
 ghost use Rattle.std.specs.Prelude.{◌≡◌};
+ghost use Rattle.clearing.specs.Lawful.{view, choices};
 
 use crate::open_round::OpenRound;
 use clearing::dockets::Docket;
@@ -17,19 +18,21 @@ pub struct Award {
     pub surplus: i64,
 }
 
+// Every choice of its docket is settled.
 #[derive(Drop)]
 pub struct AwardedRound {
     pub(crate) offers: Offers,
     pub(crate) docket: Docket,
     pub(crate) at: Position,
+    ghost finished: { at.settled ≡ choices (view docket) },
 }
 
 impl AwardedRound {
-    ghost use Rattle.clearing.specs.Lawful.{view};
     ghost use Rattle.rounds.specs.Model.{ReadAward, Reopen, WriteSheet, Awarded, Reopened, Written, step};
     ghost use Rattle.rounds.specs.Views.{of_open, of_awarded, gave, docket_in, Serves};
 
-    // The award, with what each band is sold, by offer number, in the row's first 64 places; a longer row keeps its rest.
+    // The award, with what each band is sold, by offer number, in the row's first 64 places; a longer row keeps its rest, and a
+    // shorter one is refused and stays as it is.
     pub fn award(&self, row: &mut [u64]) -> Result<Award, Refusal>
         ensures { Serves (of_awarded self.now) (ReadAward row.old) (gave (of_awarded self.now) (Awarded result row.new)) }
     {

@@ -1,5 +1,5 @@
 // A search to its end, with word of how far it is.
-ghost use Rattle.std.specs.Prelude.{◌≤◌};
+ghost use Rattle.std.specs.Prelude.{◌≡◌, ◌≤◌};
 ghost use Rattle.rounds.specs.Views.{of_closed, of_awarded, Finishes};
 
 use crate::awarded_round::AwardedRound;
@@ -13,13 +13,14 @@ pub trait Progress {
     fn note(&mut self, settled: u64, choices: u64, surplus: i64);
 }
 
-// Searches by a rule until every choice is settled, and tells after each million of steps.
+// Searches by a rule until every choice is settled, a million steps at a time, and tells after each time how far it is.
 pub fn finish<B: BoundingRule, P: Progress>(
     round: ClosedRound,
     rule: &mut B,
     progress: &mut P,
 ) -> AwardedRound
-    ensures { Finishes (of_closed round) (B.BoundingRule.answers rule.old) (of_awarded result) }
+    ensures finishes { Finishes (of_closed round) (B.BoundingRule.answers rule.old) (of_awarded result) }
+    ensures same_rule { B.BoundingRule.answers rule.new ≡ B.BoundingRule.answers rule.old }
 {
     let all = choices(&round.docket);
     let steps = steps_a_turn();

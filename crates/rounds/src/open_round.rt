@@ -35,7 +35,7 @@ impl OpenRound {
         })
     }
 
-    // Files an offer under a number of its kind.
+    // Files an offer under a number of its kind. A refusal of this or of the two calls below leaves the round as it was.
     pub fn file(&mut self, number: u8, offer: Offer) -> Result<(), Refusal>
         ensures { Serves (of_open self.old) (File number offer) (gave (of_open self.new) (Done result)) }
     {
@@ -49,7 +49,7 @@ impl OpenRound {
         self.offers.withdraw(kind, number)
     }
 
-    // Takes in a sheet.
+    // Takes in a whole sheet, or nothing of it.
     pub fn catch_up(&mut self, sheet: &[u8]) -> Result<(), Refusal>
         ensures { Serves (of_open self.old) (CatchUp sheet.now) (gave (of_open self.new) (Done result)) }
     {

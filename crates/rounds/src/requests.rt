@@ -33,7 +33,7 @@ pub enum Request<P, B> {
     WriteSheet(Vec<u8>),
 }
 
-// What it is answered, with its buffer as the call left it.
+// What it is answered, with its row or buffer as the call left it; one that comes with a call that is not taken is not given back.
 #[derive(Drop)]
 pub enum Reply {
     Done(Result<(), Refusal>),

@@ -7,7 +7,8 @@ use clearing::dockets::Docket;
 use offers::records::Package;
 use pricing::rules::{Fault, PriceRule};
 
-// One of two rules. A run of requests has one type of rule; with this it has as many as it wants.
+// One of two rules. A run of requests has one type of rule; with this it has as many as it wants. It is no rule of its own: it
+// adds no depth to a stack of price rules.
 #[derive(Clone, Copy)]
 pub enum OneOf<P, Q> {
     First(P),

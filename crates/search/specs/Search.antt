@@ -13,8 +13,11 @@ left at = (2 ^ 41 - at.settled) * 64 + at.free
 
 -- Where a search stands, as plain numbers.
 pub record Standing : Type 0 where
+  -- choices settled: those numbered below this
   pub settled : ℕ
+  -- the count of free digits of the block that is next, the rules' k
   pub free : ℕ
+  -- the choice that leads, and its surplus in pesos
   pub leader : ℕ
   pub surplus : ℤ
 
@@ -25,16 +28,23 @@ standing at = record { settled = at.settled; free = at.free; leader = at.leader;
 abbrev pub next_block : Standing → Span
 next_block at = record { first = at.settled; free = at.free }
 
--- A search stands in a docket: some choices are settled and at most all, and while one is not, the next block is one of the docket's.
+-- A search stands in a docket.
 pub record Placed (v : View) (at : Standing) : Type 0 where
+  -- some choices are settled, and at most all
   pub some : 1 ≤ at.settled
   pub most : at.settled ≤ choices v
+  -- while one is not, the next block is one of the docket's
   pub block : at.settled < choices v → InDocket v (next_block at)
 
--- The leader is the best of the settled choices, the earliest among equals, and its surplus with filled sales is known.
-pub record Leads (v : View) (at : Standing) : Type 0 where
-  pub best : BestBelow v at.settled at.leader
+-- The leader is the best lawful choice among those numbered below a bound, whatever sales the others are given, the earliest among equals.
+pub record Leading (v : View) (bound : ℕ) (at : Standing) : Type 0 where
+  pub best : BestBelow v bound at.leader
+  -- and its surplus is known: what it earns with filled sales, less its prices
   pub worth : at.surplus ≡ surplus v at.leader (filled_sales v at.leader)
+
+-- the leader is the best of the settled choices
+abbrev pub Leads : View → Standing → Type 0
+Leads v at = Leading v at.settled at
 
 -- choice 0, which takes nothing, is settled and leads
 abbrev pub start : Standing

@@ -35,8 +35,8 @@ turns-preserved g c =
       same_rule = c.search-next.ensures.same_rule ∙ same;
     }
 
-pub returns-in-Awarded : goal.returns-in-Awarded
-returns-in-Awarded g c =
+pub returns-in-Awarded-clause-finishes : goal.returns-in-Awarded-clause-finishes
+returns-in-Awarded-clause-finishes g c =
     let same = c.turns.invariant.same_rule in
     let steps = c.steps_a_turn-steps.result in
     let led =
