@@ -21,5 +21,5 @@ returns-in-Ok g c =
       accepted = both_answered before first second (CatchUp c.args.sheet.now) (Close filed_price) (Done (Ok tt)) (Done (Ok tt)) read shut;
       finished =
           subst (λ (m : Model). Finishes m limits_and_all_in (of_awarded c.finish.result))
-          (sym (both_left before first second (CatchUp c.args.sheet.now) (Close filed_price) (Done (Ok tt)) (Done (Ok tt)) read shut)) c.finish.ensures;
+          (sym (both_left before first second (CatchUp c.args.sheet.now) (Close filed_price) (Done (Ok tt)) (Done (Ok tt)) read shut)) c.finish.ensures.finishes;
     }
