@@ -3,9 +3,11 @@ pub mod Held
 pub mod Rows
 pub mod Totals
 pub mod Openings
+pub mod Contained
 pub mod Copies
 pub mod Pricings
 pub mod Closings
+pub mod OpenDockets
 pub mod Tallying
 pub mod Addings
 pub mod Takings

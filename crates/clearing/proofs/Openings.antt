@@ -13,7 +13,7 @@ use Rattle.clearing.specs.Closing.{open_from, open_bands}
 use Rattle.clearing.proofs.Totals.{total-append}
 
 -- a function over a list that another function made
-map-map : {X Y Z : Type 0} (f : Y → Z) (g : X → Y) (xs : List X) → map f (map g xs) ≡ map (λ x. f (g x)) xs
+pub map-map : {X Y Z : Type 0} (f : Y → Z) (g : X → Y) (xs : List X) → map f (map g xs) ≡ map (λ x. f (g x)) xs
 map-map f g [] = refl
 map-map f g (x ∷ xs) = ap (λ zs. f (g x) ∷ zs) (map-map f g xs)
 
@@ -64,7 +64,7 @@ module _ {R : Type 0} (es : List (Entry R)) (i : ℕ) (inside : i < length es) w
       ∙ append-nil (opened es i)
 
 -- the numbers of open records rise, whatever is made of them
-numbers_rise : {R X : Type 0} (number : X → ℕ) (f : Numbered R → X) → ((r : Numbered R) → number (f r) ≡ r.number)
+pub numbers_rise : {R X : Type 0} (number : X → ℕ) (f : Numbered R → X) → ((r : Numbered R) → number (f r) ≡ r.number)
     → (low n : ℕ) (es : List (Entry R)) → low < n → rises_from low (map number (map f (open_from n es))) ≡ true
 numbers_rise number f same low n [] h = refl
 numbers_rise number f same low n (Vacant ∷ es) h = numbers_rise number f same low (n + 1) es (omega arith)
@@ -81,13 +81,16 @@ with_ahead es b = record { number = b.number; ahead = ahead_of (open_from 1 es) 
 pub bands_rise : (es : List (Entry Band)) → rising (open_bands es) ≡ true
 bands_rise es = numbers_rise (λ b. b.number) (with_ahead es) (λ r. refl) 0 1 es (omega arith)
 
+-- as they were offered they are its open records
+pub offered_bands : (es : List (Entry Band)) → map offered (open_bands es) ≡ open_from 1 es
+offered_bands es = map-map offered (with_ahead es) (open_from 1 es) ∙ map-id (open_from 1 es)
+
 -- and each band holds what stands ahead of it
 pub bands-ahead : (es : List (Entry Band)) → aheads (open_bands es) ≡ true_aheads (open_bands es)
 bands-ahead es =
     let rs = open_from 1 es in
-    let same : map offered (open_bands es) ≡ rs = map-map offered (with_ahead es) rs ∙ map-id rs in
     map-map (λ b. b.ahead) (with_ahead es) rs
-    ∙ sym (map-map (λ b. ahead_of (map offered (open_bands es)) (offered b)) (with_ahead es) rs ∙ ap (λ bs. map (ahead_of bs) rs) same)
+    ∙ sym (map-map (λ b. ahead_of (map offered (open_bands es)) (offered b)) (with_ahead es) rs ∙ ap (λ bs. map (ahead_of bs) rs) (offered_bands es))
 
 -- what stands ahead of a band among the first so many entries
 abbrev pub ahead_so_far : List (Entry Band) → ℕ → Numbered Band → ℕ

@@ -1,24 +1,52 @@
--- What a closing makes of the entries and a price rule's meaning. Assumes nothing.
-use Rattle.std.specs.Prelude.{◌≡◌, ℕ, ◌+◌, List, [], ◌∷◌, map, ℤ, Ok, Err, Result}
+-- What stands in the docket of a closing, and what a closing makes of the entries and a price rule's meaning. Assumes nothing.
+use Rattle.std.specs.Prelude.{◌≡◌, ℕ, ◌+◌, ◌≤◌, true, ◌↔◌, List, [], ◌∷◌, map, Contains, ℤ, Ok, Err, Result, IsOk}
 use Rattle.offers.specs.declared.records.Package.{Package}
 use Rattle.offers.specs.declared.records.Band.{Band}
+use Rattle.offers.specs.declared.records.Pair.{Pair}
+use Rattle.offers.specs.declared.records.Exclusion.{Exclusion}
+use Rattle.offers.specs.declared.records.Limit.{Limit}
 use Rattle.offers.specs.declared.refusals.Code.TheVariants.{PriceFault}
 use Rattle.offers.specs.declared.refusals.Refusal.{Refusal}
 use Rattle.offers.specs.declared.registers.Entry.{Entry}
 use Rattle.offers.specs.declared.registers.Entry.TheVariants.{Vacant, Open, Withdrawn}
 use Rattle.offers.specs.Memory.{Entries, Sound}
-use Rattle.offers.specs.Registers.{Outcome}
+use Rattle.offers.specs.Registers.{Outcome, entry}
 use Rattle.offers.specs.Tables.{package_layout}
 use Rattle.pricing.specs.declared.rules.Fault.{Fault}
 use Rattle.pricing.specs.Prices.{Bounded}
 use Rattle.clearing.specs.declared.dockets.PricedPackage.{PricedPackage}
 use Rattle.clearing.specs.declared.dockets.OpenBand.{OpenBand}
-use Rattle.clearing.specs.Bands.{Numbered, ahead_of}
+use Rattle.clearing.specs.Bands.{Numbered, offered, ahead_of, rises_from, rising}
 use Rattle.clearing.specs.Lawful.{View, nothing_open}
 
 -- a price rule's meaning: one price or fault for each package record
 abbrev pub Meaning : Type 0
 Meaning = Package → Result ℤ Fault
+
+-- number n of a register is open with record r
+abbrev pub OpenWith : {R : Type 0} → List (Entry R) → ℕ → R → Type 0
+OpenWith es n r = (1 ≤ n) × (entry es n ≡ Open r)
+
+-- What is open among entries, and nothing else, stands in a docket, with the prices that a rule means. Packages and bands stand there
+-- with their numbers; of pairs, exclusions and limits only the records do, and what is lawful asks which of them, not how often.
+pub record OfOpen (all : Entries) (price : Meaning) (docket : View) : Type 0 where
+  -- a package stands in it exactly if its number is open with its record, and its price is what the rule means
+  pub packages : (p : PricedPackage)
+      → Contains docket.packages p ↔ (OpenWith all.packages p.number p.«record» × (price p.«record» ≡ Ok p.price))
+  -- no open package is left out for want of a price
+  pub all_priced : (n : ℕ) (r : Package) → OpenWith all.packages n r → IsOk (price r)
+  -- a band, as it was offered, exactly if its number is open with its record
+  pub bands : (b : Numbered Band) → Contains (map offered docket.bands) b ↔ OpenWith all.bands b.number b.of
+  -- a pair exactly if some number is open with it
+  pub pairs : (r : Pair) → Contains docket.pairs r ↔ ((n : ℕ) × OpenWith all.pairs n r)
+  -- an exclusion likewise
+  pub exclusions : (r : Exclusion) → Contains docket.exclusions r ↔ ((n : ℕ) × OpenWith all.exclusions n r)
+  -- and a limit
+  pub limits : (r : Limit) → Contains docket.limits r ↔ ((n : ℕ) × OpenWith all.limits n r)
+  -- packages stand by rising number, so none stands twice
+  pub packages_rise : rises_from 0 (map (λ p. p.number) docket.packages) ≡ true
+  -- and so do bands
+  pub bands_rise : rising docket.bands ≡ true
 
 -- the open records of a register by rising number, its first entry having number n
 abbrev pub open_from : {R : Type 0} → ℕ → List (Entry R) → List (Numbered R)

@@ -5,7 +5,7 @@ ghost use Rattle.offers.specs.Refusals.{Carries};
 ghost use Rattle.offers.specs.declared.records.Package.{Package as Rated};
 ghost use Rattle.offers.specs.declared.registers.Entry.TheVariants.{Vacant, Open};
 ghost use Rattle.clearing.specs.Bands.{ahead_of};
-ghost use Rattle.clearing.specs.Closing.{ByClosing, closing, priced, no_price, open_from, open_records, open_bands};
+ghost use Rattle.clearing.specs.Closing.{ByClosing, OfOpen, closing, priced, no_price, open_from, open_records, open_bands};
 ghost use Rattle.clearing.specs.Lawful.{view, nothing_open};
 ghost use Rattle.clearing.specs.Ranges.{each, fits, price_fits, package_fits, band_fits};
 
@@ -50,6 +50,7 @@ impl Docket {
         ensures after { view self.new ≡ (closing (view self.old) (held offers.now) (P.PriceRule.meaning rule.old)).left }
         ensures same_rule { P.PriceRule.meaning rule.new ≡ P.PriceRule.meaning rule.old }
         ensures by_closing { result ≡ Ok tt → ByClosing (view self.new) }
+        ensures of_open { result ≡ Ok tt → OfOpen (held offers.now) (P.PriceRule.meaning rule.old) (view self.new) }
         ensures carries { IfErr result Carries }
     {
         let prices = price_all(&offers.packages, rule)?;

@@ -8,6 +8,7 @@ use Rattle.clearing.specs.Lawful.{view, nothing_open}
 use Rattle.clearing.proofs.Openings.{bands_rise, bands-ahead}
 use Rattle.clearing.proofs.Pricings.{at_price, priced_all}
 use Rattle.clearing.proofs.Closings.{closing-priced, docket_is}
+use Rattle.clearing.proofs.OpenDockets.{closing_open}
 use Rattle.clearing.proofs.dockets.Docket.close.Goals as goal
 
 pub invariant_of-self-clause-bands_rise : goal.invariant_of-self-clause-bands_rise
@@ -26,6 +27,7 @@ returns g c =
     let prices-are = priced_all meaning all.packages prices c.in_ok-prices.ensures.answer in
     let made = closing-priced before all meaning ps prices-are in
     let docket = docket_is _ all ps c.copy_packages.ensures.items c.copy_bands.ensures.items c.copy_open.ensures.items c.copy_open-2.ensures.items c.copy_open-3.ensures.items in
+    let accepted = closing-priced nothing_open all meaning ps prices-are ∙ ap (λ v. record { answer = Ok tt; left = v }) (sym docket) in
     record {
       answer = ap (λ o. o.answer) (sym made);
       after = docket ∙ ap (λ o. o.left) (sym made);
@@ -35,7 +37,8 @@ returns g c =
         meaning = meaning;
         sound = sound-held c.args.offers.now;
         bounded = g.met.P.PriceRule.bounded c.args.rule.now;
-        accepted = closing-priced nothing_open all meaning ps prices-are ∙ ap (λ v. record { answer = Ok tt; left = v }) (sym docket);
+        accepted = accepted;
       };
+      of_open = λ _. closing_open all meaning _ nothing_open accepted;
       carries = tt;
     }
