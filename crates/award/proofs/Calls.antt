@@ -1,6 +1,6 @@
 -- Two accepted calls, one after the other.
-use Rattle.std.proofs.Common.{◌≡◌, List, [], ◌∷◌, Ok, refl, subst}
-use Rattle.rounds.specs.Model.{Call, Answer, Done, Model, Stepped, step, answers_from, after_from}
+use Rattle.std.proofs.Common.{◌≡◌, [], ◌∷◌, refl, subst}
+use Rattle.rounds.specs.Model.{Call, Answer, Model, Stepped, step, answers_from, after_from}
 use Rattle.rounds.specs.Views.{gave}
 
 -- both are answered so

@@ -2,6 +2,7 @@
 use Rattle.std.proofs.Common.{◌≡◌, Bool, true, false, ◌&&◌, ◌||◌, List, [], ◌∷◌, ◌++◌, Ok, sym, refl, ap, ◌∙◌, append_assoc}
 use Rattle.clearing.specs.Closing.{Meaning, closing}
 use Rattle.clearing.specs.Lawful.{View, nothing_open}
+use Rattle.clearing.proofs.OpenDockets.{closing_open}
 use Rattle.rounds.specs.Model.{Call, Close, IsOpen, Model, accepted, step, beginning, after_from, after, some_accepted}
 use Rattle.rounds.specs.Promises.{closes, LastClosing}
 
@@ -46,6 +47,7 @@ closing_more calls v was call none = record {
   later = was.later ++ call ∷ [];
   so = ap (λ (xs : List Call). xs ++ call ∷ []) was.so ∙ append_assoc was.before (Close was.price ∷ was.later) (call ∷ []);
   was_open = was.was_open;
+  made = was.made;
   open_then = was.open_then;
   last =
       let here = since_closing was.before was.later was.price ∙ ap after (sym was.so) in
@@ -62,6 +64,7 @@ closing_now calls v price is-open made = record {
   later = [];
   so = refl;
   was_open = is-open;
-  open_then = made;
+  made = made;
+  open_then = closing_open (after calls).entries price v nothing_open made;
   last = refl;
 }

@@ -1,5 +1,5 @@
 -- What every call of the plain round keeps: no entry goes back, and a call that is not accepted alters nothing.
-use Rattle.std.proofs.Common.{◌≡◌, ℕ, true, false, List, [], ◌∷◌, length, get_or, leb, ℤ, Some, None, Ok, Err, Result, sym, refl, ap, ◌∙◌, subst}
+use Rattle.std.proofs.Common.{◌≡◌, ℕ, true, List, [], ◌∷◌, length, get_or, leb, ℤ, Some, None, Ok, Err, Result, sym, refl, ap, ◌∙◌, subst}
 use Rattle.std.proofs.lemmas.Bool.{cond_both, true≢false}
 use Rattle.std.proofs.lemmas.Option.{none-some}
 use Rattle.offers.specs.declared.records.Package.{Package}
@@ -21,8 +21,8 @@ use Rattle.pricing.specs.declared.rules.Fault.{Fault}
 use Rattle.clearing.specs.Bands.{Numbered}
 use Rattle.clearing.specs.Closing.{Meaning, open_from, priced, priced_as, no_price, closed_with}
 use Rattle.clearing.specs.Lawful.{View, nothing_open}
-use Rattle.search.specs.Search.{Standing, steps}
-use Rattle.rounds.specs.Model.{Call, File, Withdraw, CatchUp, Close, Search, Reopen, ReadAward, WriteSheet, Done, Found, Reopened, Awarded, Written, NotTaken, State, IsOpen, IsClosed, IsAwarded, Model, model, Stepped, accepted, told, closed, written, step_in, step}
+use Rattle.search.specs.Search.{Standing}
+use Rattle.rounds.specs.Model.{Call, File, Withdraw, CatchUp, Close, Search, Reopen, ReadAward, WriteSheet, Done, Reopened, Written, NotTaken, State, IsOpen, IsClosed, IsAwarded, Model, model, Stepped, accepted, told, closed, written, step_in, step}
 use Rattle.rounds.specs.Promises.{Keeps, refusal_in, lent_with, lent_back}
 
 -- no entry goes back, and no record changes

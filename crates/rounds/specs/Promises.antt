@@ -11,7 +11,7 @@ use Rattle.offers.specs.declared.registers.Entry.TheVariants.{Vacant}
 use Rattle.pricing.specs.Prices.{Bounded}
 use Rattle.sheets.specs.Laws.{says_withdrawn}
 use Rattle.clearing.specs.Choices.{taken, has_number}
-use Rattle.clearing.specs.Closing.{Meaning, closing}
+use Rattle.clearing.specs.Closing.{Meaning, OfOpen, closing}
 use Rattle.clearing.specs.Lawful.{View, nothing_open, filled_sales, choices}
 use Rattle.bounds.specs.Blocks.{SoundRule}
 use Rattle.search.specs.Search.{Standing, Leading}
@@ -79,8 +79,10 @@ pub record LastClosing (calls : List Call) (docket : View) : Type 0 where
   pub so : calls ≡ before ++ Close price ∷ later
   -- the round was open when it came
   pub was_open : (after before).state ≡ IsOpen
-  -- it was accepted, and made the docket of the entries that the calls before it had left
-  pub open_then : closing nothing_open (after before).entries price ≡ record { answer = Ok tt; left = docket }
+  -- it was accepted, and made this docket
+  pub made : closing nothing_open (after before).entries price ≡ record { answer = Ok tt; left = docket }
+  -- which has what was open among the entries that the calls before it had left, at the rule's prices, and nothing else
+  pub open_then : OfOpen (after before).entries price docket
   -- no later closing was accepted
   pub last : some_accepted closes (after (before ++ Close price ∷ [])) later ≡ false
 

@@ -3,8 +3,6 @@ use Rattle.std.proofs.Common.{◌≡◌, Ok, Result, sym, ap, ◌∙◌, subst}
 use Rattle.offers.specs.declared.refusals.Refusal.{Refusal}
 use Rattle.pricing.specs.Prices.{filed_price}
 use Rattle.bounds.specs.Rules.{limits_and_all_in}
-use Rattle.rounds.specs.declared.open_round.OpenRound.{OpenRound}
-use Rattle.rounds.specs.declared.closed_round.ClosedRound.{ClosedRound}
 use Rattle.rounds.specs.Model.{CatchUp, Close, Done, Model, step}
 use Rattle.rounds.specs.Views.{of_open, of_closed, of_awarded, gave, gave_closing, Finishes}
 use Rattle.award.proofs.Calls.{both_answered, both_left}
