@@ -64,3 +64,7 @@ abbrev pub smaller : Option ℤ → Option ℤ → Option ℤ
 smaller None other = None
 smaller (Some cap) None = None
 smaller (Some cap) (Some other) = Some (int_min cap other)
+
+-- limits and all-in joined
+abbrev pub limits_and_all_in : Answers
+limits_and_all_in v b = smaller (limits_kept v b) (all_in v b)
