@@ -1,7 +1,7 @@
 // Awards of other rounds than the worked ones: each rule of lawfulness that those leave out, and other bounding rules.
 use crate::fixtures::{
-    Told, band, check_award, check_told, filing, four_packages, limit, needs, package, six_bands,
-    unqualified,
+    Told, band, check_answers, check_award, filing, four_packages, limit, needs, package,
+    six_bands, unqualified,
 };
 use bounds::all_in::AllIn;
 use bounds::blocks::BoundingRule;
@@ -12,7 +12,6 @@ use bounds::one_by_one::OneByOne;
 use offers::memory::Offer;
 use offers::records::Package;
 use pricing::filed::Filed;
-use rounds::replays::replay;
 use rounds::requests::Request;
 use rounds::rules::OneOf;
 use std::process::Abort;
@@ -23,8 +22,7 @@ use std::test::*;
 fn qualified_not_counted(rt: HostRuntime) -> Result<(), Fail> {
     let mut packages = four_packages().map(unqualified);
     packages[0].unqualified = 0;
-    let mut asks = filing(rt.alloc(), &packages, &six_bands())?;
-    asks.push(Request::File(1, limit(1, 1, 49)))?;
+    let asks = filing(rt.alloc(), &packages, &six_bands(), &[limit(1, 1, 49)])?;
     let sales = [50, 20, 150_000, 60_000, 150_000, 60_000];
     check_award(&rt, asks, 16, 7, 116_500_000, &sales)
 }
@@ -33,8 +31,7 @@ fn qualified_not_counted(rt: HostRuntime) -> Result<(), Fail> {
 #[test]
 fn export_within_210000(rt: HostRuntime) -> Result<(), Fail> {
     let packages = four_packages().map(unqualified);
-    let mut asks = filing(rt.alloc(), &packages, &six_bands())?;
-    asks.push(Request::File(1, limit(2, 1, 210_000)))?;
+    let asks = filing(rt.alloc(), &packages, &six_bands(), &[limit(2, 1, 210_000)])?;
     let sales = [50, 20, 150_000, 60_000, 150_000, 60_000];
     check_award(&rt, asks, 16, 7, 116_500_000, &sales)
 }
@@ -42,8 +39,7 @@ fn export_within_210000(rt: HostRuntime) -> Result<(), Fail> {
 #[test]
 fn export_within_209999(rt: HostRuntime) -> Result<(), Fail> {
     let packages = four_packages().map(unqualified);
-    let mut asks = filing(rt.alloc(), &packages, &six_bands())?;
-    asks.push(Request::File(1, limit(2, 1, 209_999)))?;
+    let asks = filing(rt.alloc(), &packages, &six_bands(), &[limit(2, 1, 209_999)])?;
     let sales = [50, 20, 120_000, 0, 120_000, 0];
     check_award(&rt, asks, 16, 14, 103_000_000, &sales)
 }
@@ -89,8 +85,8 @@ fn percentages(rt: HostRuntime) -> Result<(), Fail> {
     ] {
         let mut packages = four_packages();
         packages[2].date = date;
-        let mut asks = filing(rt.alloc(), &packages, &six_bands())?;
-        asks.push(Request::File(1, limit(3, zone, amount)))?;
+        let others = [limit(3, zone, amount)];
+        let asks = filing(rt.alloc(), &packages, &six_bands(), &others)?;
         check_award(&rt, asks, 16, choice, surplus, &sales)?;
     }
     Ok(())
@@ -110,8 +106,8 @@ fn power_zones_apart(rt: HostRuntime) -> Result<(), Fail> {
             ..package(30, 0, 0, 0)
         },
     ];
-    let mut asks = filing(rt.alloc(), &packages, &[band(2, 10, 5), band(3, 40, 5)])?;
-    asks.push(Request::File(1, limit(3, 1, 25)))?;
+    let bands = [band(2, 10, 5), band(3, 40, 5)];
+    let asks = filing(rt.alloc(), &packages, &bands, &[limit(3, 1, 25)])?;
     check_award(&rt, asks, 4, 2, 150, &[0, 30])
 }
 
@@ -121,10 +117,8 @@ fn zones_of_limits_apart(rt: HostRuntime) -> Result<(), Fail> {
     let mut packages = four_packages().map(unqualified);
     packages[0].interconnection_zone = 2;
     packages[2].export_zone = 3;
-    let mut asks = filing(rt.alloc(), &packages, &six_bands())?;
-    asks.push(Request::File(1, limit(1, 2, 29)))?;
-    asks.push(Request::File(2, limit(2, 3, 89_999)))?;
-    asks.push(Request::File(3, limit(1, 1, 50)))?;
+    let limits = [limit(1, 2, 29), limit(2, 3, 89_999), limit(1, 1, 50)];
+    let asks = filing(rt.alloc(), &packages, &six_bands(), &limits)?;
     let sales = [50, 0, 30_000, 0, 30_000, 0];
     check_award(&rt, asks, 16, 10, 39_500_000, &sales)
 }
@@ -148,18 +142,13 @@ fn check_steps<R: Abort + AllocGlobal, B: BoundingRule + Copy + Drop>(
     rule: B,
     steps: u32,
 ) -> Result<(), Fail> {
-    let heap = rt.alloc();
-    let mut asks = filing(heap, &four_packages(), &six_bands())?;
-    asks.push(Request::File(1, needs(3, 2)))?;
+    let others = [needs(3, 2)];
+    let mut asks = filing(rt.alloc(), &four_packages(), &six_bands(), &others)?;
     asks.push(Request::Close(Filed))?;
     asks.push(Request::Search(rule, steps.saturating_sub(1)))?;
     asks.push(Request::Search(rule, 1))?;
-    let run = replay(heap, asks)?;
-    check_told(
-        rt,
-        &run,
-        &[Told::Found(15, 116_500_000), Told::Found(16, 118_500_000)],
-    )
+    let last = [Told::Found(15, 116_500_000), Told::Found(16, 118_500_000)];
+    check_answers(rt, asks, &last)
 }
 
 #[test]
@@ -174,20 +163,15 @@ fn steps_under_each_rule(rt: HostRuntime) -> Result<(), Fail> {
 // Three searches of one round, each under another rule.
 #[test]
 fn different_rules(rt: HostRuntime) -> Result<(), Fail> {
-    let heap = rt.alloc();
-    let mut asks = filing(heap, &four_packages(), &six_bands())?;
+    let mut asks = filing(rt.alloc(), &four_packages(), &six_bands(), &[])?;
     asks.push(Request::Close(Filed))?;
     asks.push(Request::Search(OneOf::First(Ceiling), 5))?;
     asks.push(Request::Search(OneOf::Second(OneOf::First(OneByOne)), 3))?;
     asks.push(Request::Search(OneOf::Second(OneOf::Second(AllIn)), 100))?;
-    let run = replay(heap, asks)?;
-    check_told(
-        &rt,
-        &run,
-        &[
-            Told::Found(4, 68_000_000),
-            Told::Found(6, 111_500_000),
-            Told::Found(16, 123_500_000),
-        ],
-    )
+    let last = [
+        Told::Found(4, 68_000_000),
+        Told::Found(6, 111_500_000),
+        Told::Found(16, 123_500_000),
+    ];
+    check_answers(&rt, asks, &last)
 }

@@ -1,11 +1,13 @@
 // What tests are written with: the offers of the worked rounds, requests to a round, and what they are answered.
 use bounds::all_in::AllIn;
+use bounds::blocks::BoundingRule;
 use bounds::joined::Joined;
 use bounds::limits::Limits;
 use offers::memory::Offer;
 use offers::records::{Band, Exclusion, Limit, Package, Pair};
 use offers::refusals::{Code, Refusal};
 use pricing::filed::Filed;
+use pricing::rules::PriceRule;
 use rounds::replays::{Moment, Run, replay};
 use rounds::requests::{Reply, Request};
 use std::alloc::{AllocError, Global};
@@ -115,18 +117,19 @@ pub type Ask = Request<Filed, Joined<Limits, AllIn>>;
 
 pub const LIMITS_AND_ALL_IN: Joined<Limits, AllIn> = Joined(Limits, AllIn);
 
-// Files packages from number 1 on, and bands.
+// Files packages, bands and other offers, each from number 1 on.
 pub fn filing<P: Drop, B: Drop>(
     heap: Global,
     packages: &[Package],
     bands: &[Offer],
+    others: &[Offer],
 ) -> Result<Vec<Request<P, B>>, AllocError> {
     let mut asks = Vec::new(heap);
     for (number, package) in (1..=40).zip(packages) {
         asks.push(Request::File(number, Offer::Package(*package)))?;
     }
-    for (number, band) in (1..=64).zip(bands) {
-        asks.push(Request::File(number, *band))?;
+    for (number, offer) in (1..=64).zip(bands).chain((1..=64).zip(others)) {
+        asks.push(Request::File(number, *offer))?;
     }
     Ok(asks)
 }
@@ -160,8 +163,13 @@ impl Told {
     }
 }
 
-// The last requests of a run were answered so, and each before them is done.
-pub fn check_told(rt: &impl Abort, run: &Run, last: &[Told]) -> Result<(), Fail> {
+// Makes a run, of which the last requests are answered so and each before them is done.
+pub fn check_run<R: Abort + AllocGlobal, P: PriceRule + Drop, B: BoundingRule + Drop>(
+    rt: &R,
+    asks: Vec<Request<P, B>>,
+    last: &[Told],
+) -> Result<Run, Fail> {
+    let run = replay(rt.alloc(), asks)?;
     let before = run.moments.len().saturating_sub(last.len());
     for (at, moment) in run.moments.iter().enumerate() {
         let expected = match at.checked_sub(before) {
@@ -170,7 +178,7 @@ pub fn check_told(rt: &impl Abort, run: &Run, last: &[Told]) -> Result<(), Fail>
         };
         assert_eq!(rt; Told::of(&moment.reply), expected, "request {at}");
     }
-    Ok(())
+    Ok(run)
 }
 
 // A row for an award, of so many places that each hold a 7.
@@ -178,8 +186,29 @@ pub fn row(heap: Global, places: usize) -> Result<Vec<u64>, AllocError> {
     Ok(vec![in heap; 7u64; places]?)
 }
 
-// The row of the last request of a run holds these sales from band 1 on, then 0 up to place 64, and then what it held.
-pub fn check_row(rt: &impl Abort, run: &Run, sales: &[u64]) -> Result<(), Fail> {
+// So is a run of which nothing else is looked at.
+pub fn check_answers<R: Abort + AllocGlobal, P: PriceRule + Drop, B: BoundingRule + Drop>(
+    rt: &R,
+    asks: Vec<Request<P, B>>,
+    last: &[Told],
+) -> Result<(), Fail> {
+    check_run(rt, asks, last)?;
+    Ok(())
+}
+
+// And one whose last request reads the award: the row then holds these sales from band 1 on, 0 up to place 64, and then what
+// it was lent with.
+pub fn check_sold<R: Abort + AllocGlobal, P: PriceRule + Drop, B: BoundingRule + Drop>(
+    rt: &R,
+    asks: Vec<Request<P, B>>,
+    last: &[Told],
+    sales: &[u64],
+) -> Result<(), Fail> {
+    let run = check_run(rt, asks, last)?;
+    check_row(rt, &run, sales)
+}
+
+fn check_row(rt: &impl Abort, run: &Run, sales: &[u64]) -> Result<(), Fail> {
     let Some(
         Moment {
             reply: Reply::Awarded(_, row),
@@ -211,11 +240,9 @@ pub fn check_award<R: Abort + AllocGlobal>(
     asks.push(Request::Close(Filed))?;
     asks.push(Request::Search(LIMITS_AND_ALL_IN, 1_000_000))?;
     asks.push(Request::ReadAward(row(heap, 64)?))?;
-    let run = replay(heap, asks)?;
     let last = [
         Told::Found(choices, surplus),
         Told::Awarded(choice, surplus),
     ];
-    check_told(rt, &run, &last)?;
-    check_row(rt, &run, sales)
+    check_sold(rt, asks, &last, sales)
 }

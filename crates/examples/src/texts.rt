@@ -9,21 +9,25 @@ use rounds::finishing::{Progress, finish};
 use rounds::open_round::OpenRound;
 use rounds::replays::replay;
 use rounds::requests::{Request, Round};
+use std::alloc::Global;
 use std::process::Abort;
 use std::test::*;
 
-// Once all that is asked is done, the round is closed as filed, searched to its end, and its award has this text.
+// Once all that is asked is done, the round is closed as filed and searched to its end, and its award has this text.
 fn check_text<R: Abort + AllocGlobal>(rt: &R, mut asks: Vec<Ask>, lines: &str) -> Result<(), Fail> {
-    let heap = rt.alloc();
     asks.push(Request::Close(Filed))?;
     asks.push(Request::Search(LIMITS_AND_ALL_IN, 1_000_000))?;
-    let run = replay(heap, asks)?;
-    let Round::Awarded(round) = &run.round else {
-        return Err(Fail::new("not awarded"));
-    };
-    let report = Report::of(heap, round)?;
-    assert_eq!(rt; report.to_string(heap)?.as_str(), lines);
+    let report = report_of(rt.alloc(), &replay(rt.alloc(), asks)?.round)?;
+    assert_eq!(rt; report.to_string(rt.alloc())?.as_str(), lines);
     Ok(())
+}
+
+// The report of a round that is awarded.
+fn report_of(heap: Global, round: &Round) -> Result<Report, Fail> {
+    match round {
+        Round::Awarded(awarded) => Ok(Report::of(heap, awarded)?),
+        _ => Err(Fail::new("not awarded")),
+    }
 }
 
 #[test]
@@ -33,7 +37,7 @@ fn no_offers(rt: HostRuntime) -> Result<(), Fail> {
 
 #[test]
 fn four_packages_and_six_bands(rt: HostRuntime) -> Result<(), Fail> {
-    let asks = filing(rt.alloc(), &four_packages(), &six_bands())?;
+    let asks = filing(rt.alloc(), &four_packages(), &six_bands(), &[])?;
     let lines = "open 4 choices 16\npackage 1\npackage 3\npackage 4\n\
         band 1 sold 50\nband 2 sold 30\nband 3 sold 150000\n\
         band 4 sold 90000\nband 5 sold 150000\nband 6 sold 90000\nsurplus 123500000\n";
