@@ -1,5 +1,5 @@
 // Each refusal of filing and withdrawing, with all its values, and what a refused call leaves.
-use crate::worked::refusal;
+use crate::fixtures::refusal;
 use offers::memory::{Kind, Offer, Offers};
 use offers::records::{Band, Exclusion, Limit, Pair};
 use offers::refusals::Code;

@@ -1,10 +1,16 @@
 // What a round accepts, refuses, prices and awards, shown by examples.
 #![tactic(auto)]
 
-ghost use Rattle.examples.specs.Steps.{TwoPackagesSteps};
+ghost use Rattle.std.specs.Prelude.{◌≡◌};
+ghost use Rattle.pricing.specs.Prices.{stack_price};
+ghost use Rattle.examples.specs.WorkedRounds.{TwelveRounds};
 
 #[cfg(test)]
+mod awards;
+#[cfg(test)]
 mod filing;
+#[cfg(test)]
+mod fixtures;
 #[cfg(test)]
 mod lawfulness;
 #[cfg(test)]
@@ -12,13 +18,26 @@ mod prices;
 #[cfg(test)]
 mod ranges;
 #[cfg(test)]
+mod runs;
+#[cfg(test)]
 mod sheet_fields;
 #[cfg(test)]
-mod whole_rounds;
+mod texts;
 #[cfg(test)]
-mod worked;
+mod worked_rounds;
 
-// The search of the two-package round finishes in 4 steps under the ceiling and in 2 under all-in. This is its proof.
-pub fn two_packages_steps()
-    ensures { TwoPackagesSteps }
+use offers::records::Package;
+use pricing::currency::Currency;
+use pricing::filed::Filed;
+use pricing::place::Place;
+use pricing::rules::PriceRule;
+
+// The definitions come to what the worked rounds say. This is its proof.
+pub fn twelve_rounds()
+    ensures { TwelveRounds }
+{}
+
+// What the round's own stack of price rules means, by the numbers that its rules hold. This is its proof.
+pub fn stack_means(stack: &Currency<Place<Filed>>)
+    ensures { (p : Package) → ⟦<Currency<Place<Filed>> as PriceRule>⟧.meaning stack.now p ≡ stack_price stack.now.rates.preference stack.now.rates.expectation stack.now.below.numbers.numbers p }
 {}

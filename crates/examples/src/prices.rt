@@ -1,5 +1,5 @@
 // Prices by the filed, the place and the currency rule, and their faults.
-use crate::worked::{package, refusal};
+use crate::fixtures::{package, refusal};
 use offers::records::Package;
 use offers::refusals::{Code, Refusal};
 use pricing::currency::Currency;

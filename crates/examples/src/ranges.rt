@@ -1,5 +1,5 @@
 // The fields of each kind at both ends of their ranges, and one past them.
-use crate::worked::LEAST;
+use crate::fixtures::LEAST;
 use offers::records::{Band, Exclusion, Limit, Package, Pair, Record};
 use std::process::Abort;
 use std::test::*;

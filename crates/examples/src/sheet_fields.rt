@@ -1,5 +1,5 @@
 // Sheets: every offence at several places, their order, the fullest sheet, and how a withdrawal travels.
-use crate::worked::{LEAST, refusal};
+use crate::fixtures::{LEAST, refusal};
 use offers::memory::{Kind, Offer, Offers};
 use offers::records::{Band, Exclusion, Limit, Package, Pair};
 use offers::refusals::{Code, Refusal};

@@ -47,3 +47,8 @@ abbrev pub currency_price : ℕ → ℕ → ℕ → Result ℤ Fault → Package
 currency_price preference expectation depth below p =
     upon below depth (λ price.
     cond (p.dollar == 1) (hundred_millionth (price *ℤ pos (preference * expectation))) price)
+
+-- the round's own stack of price rules, with its rates and the numbers of its zones: currency on place on filed
+abbrev pub stack_price : ℕ → ℕ → List ℤ → Package → Result ℤ Fault
+stack_price preference expectation numbers p =
+    currency_price preference expectation (above (above 1)) (place_price numbers (above 1) (filed_price p) p) p

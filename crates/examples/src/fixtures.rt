@@ -1,0 +1,248 @@
+// What tests are written with: the offers of the worked rounds, requests to a round, and what they are answered.
+use bounds::all_in::AllIn;
+use bounds::blocks::BoundingRule;
+use bounds::joined::Joined;
+use bounds::limits::Limits;
+use offers::memory::Offer;
+use offers::records::{Band, Exclusion, Limit, Package, Pair};
+use offers::refusals::{Code, Refusal};
+use pricing::filed::Filed;
+use pricing::rules::PriceRule;
+use rounds::replays::{Moment, Run, replay};
+use rounds::requests::{Reply, Request};
+use std::alloc::{AllocError, Global};
+use std::process::Abort;
+use std::test::*;
+
+// A refusal of any call but a closing, which alone tells of a price rule's depth. `sheets` has the same, but for itself only.
+pub fn refusal(code: Code, tag: u8, number: u8, field: u8, byte: usize) -> Refusal {
+    Refusal {
+        tag,
+        number,
+        field,
+        byte,
+        ..Refusal::of(code)
+    }
+}
+
+// A package of which each field has its least value.
+pub const LEAST: Package = Package {
+    power: 0,
+    energy: 0,
+    certificates: 0,
+    nameplate: 0,
+    price: 0,
+    power_zone: 1,
+    interconnection_zone: 1,
+    export_zone: 1,
+    price_zone: 1,
+    date: 0,
+    unqualified: 0,
+    dollar: 0,
+};
+
+// A package with all zones 1 and all other fields 0.
+pub fn package(power: u32, energy: u32, certificates: u32, price: u64) -> Package {
+    Package {
+        power,
+        energy,
+        certificates,
+        price,
+        ..LEAST
+    }
+}
+
+// Without connection priority, and with a nameplate equal to its power.
+pub fn unqualified(package: Package) -> Package {
+    Package {
+        nameplate: package.power,
+        unqualified: 1,
+        ..package
+    }
+}
+
+pub fn band(market: u8, quantity: u32, price: u32) -> Offer {
+    Offer::Band(Band {
+        market,
+        quantity,
+        price,
+    })
+}
+
+pub fn needs(dependent: u8, needed: u8) -> Offer {
+    Offer::Pair(Pair { dependent, needed })
+}
+
+// A member of the first group.
+pub fn excluded(member: u8) -> Offer {
+    Offer::Exclusion(Exclusion { group: 1, member })
+}
+
+pub fn limit(sort: u8, zone: u8, amount: u32) -> Offer {
+    Offer::Limit(Limit { sort, zone, amount })
+}
+
+// The packages of the four-package round.
+pub fn four_packages() -> [Package; 4] {
+    [
+        package(30, 120_000, 120_000, 120_000_000),
+        package(20, 0, 0, 15_000_000),
+        package(20, 90_000, 90_000, 60_000_000),
+        package(30, 30_000, 30_000, 45_000_000),
+    ]
+}
+
+// Its bands: two for power in zone 1, two for energy and two for certificates.
+pub fn six_bands() -> [Offer; 6] {
+    [
+        band(1, 50, 1_300_000),
+        band(1, 40, 1_000_000),
+        band(4, 150_000, 800),
+        band(4, 120_000, 600),
+        band(5, 150_000, 350),
+        band(5, 120_000, 300),
+    ]
+}
+
+// The sheet of the two-package round.
+pub const TWO_PACKAGES: &[u8; 86] =
+    b"\x01\x00\x21\x01\x01\x00\x00\x00\x00\x00\x00\x00\x0a\x00\x00\x00\x00\x00\x00\x00\x00\
+    \x00\x00\x00\x00\x00\x00\x00\x14\x01\x01\x01\x01\x00\x00\x00\
+    \x01\x00\x21\x02\x01\x00\x00\x00\x00\x00\x00\x00\x0a\x00\x00\x00\x00\x00\x00\x00\x00\
+    \x00\x00\x00\x00\x00\x00\x00\x14\x01\x01\x01\x01\x00\x00\x00\
+    \x02\x00\x0b\x01\x01\x04\x00\x00\x00\x0a\x00\x00\x00\x05";
+
+// What most rounds are asked: they are closed as filed, and searched under limits and all-in joined.
+pub type Ask = Request<Filed, Joined<Limits, AllIn>>;
+
+pub const LIMITS_AND_ALL_IN: Joined<Limits, AllIn> = Joined(Limits, AllIn);
+
+// Files packages, bands and other offers, each from number 1 on.
+pub fn filing<P: Drop, B: Drop>(
+    heap: Global,
+    packages: &[Package],
+    bands: &[Offer],
+    others: &[Offer],
+) -> Result<Vec<Request<P, B>>, AllocError> {
+    let mut asks = Vec::new(heap);
+    for (number, package) in (1..=40).zip(packages) {
+        asks.push(Request::File(number, Offer::Package(*package)))?;
+    }
+    for (number, offer) in (1..=64).zip(bands).chain((1..=64).zip(others)) {
+        asks.push(Request::File(number, *offer))?;
+    }
+    Ok(asks)
+}
+
+// What a request is answered, without its row or buffer.
+#[derive(Clone, Copy, PartialEq, Eq, Debug)]
+pub enum Told {
+    Done,
+    Found(u64, i64),
+    Reopened,
+    Awarded(u64, i64),
+    Written(usize),
+    Refused(Refusal),
+    NotTaken,
+}
+
+impl Told {
+    fn of(reply: &Reply) -> Told {
+        match reply {
+            Reply::Done(Ok(())) => Told::Done,
+            Reply::Found(Ok((settled, surplus))) => Told::Found(*settled, *surplus),
+            Reply::Reopened => Told::Reopened,
+            Reply::Awarded(Ok(award), _) => Told::Awarded(award.choice, award.surplus),
+            Reply::Written(Ok(length), _) => Told::Written(*length),
+            Reply::Done(Err(refusal))
+            | Reply::Found(Err(refusal))
+            | Reply::Awarded(Err(refusal), _)
+            | Reply::Written(Err(refusal), _) => Told::Refused(*refusal),
+            Reply::NotTaken => Told::NotTaken,
+        }
+    }
+}
+
+// Makes a run, of which the last requests are answered so and each before them is done.
+pub fn check_run<R: Abort + AllocGlobal, P: PriceRule + Drop, B: BoundingRule + Drop>(
+    rt: &R,
+    asks: Vec<Request<P, B>>,
+    last: &[Told],
+) -> Result<Run, Fail> {
+    let run = replay(rt.alloc(), asks)?;
+    let before = run.moments.len().saturating_sub(last.len());
+    for (at, moment) in run.moments.iter().enumerate() {
+        let expected = match at.checked_sub(before) {
+            Some(place) => last.get(place).copied().unwrap_or(Told::NotTaken),
+            None => Told::Done,
+        };
+        assert_eq!(rt; Told::of(&moment.reply), expected, "request {at}");
+    }
+    Ok(run)
+}
+
+// A row for an award, of so many places that each hold a 7.
+pub fn row(heap: Global, places: usize) -> Result<Vec<u64>, AllocError> {
+    Ok(vec![in heap; 7u64; places]?)
+}
+
+// So is a run of which nothing else is looked at.
+pub fn check_answers<R: Abort + AllocGlobal, P: PriceRule + Drop, B: BoundingRule + Drop>(
+    rt: &R,
+    asks: Vec<Request<P, B>>,
+    last: &[Told],
+) -> Result<(), Fail> {
+    check_run(rt, asks, last)?;
+    Ok(())
+}
+
+// And one whose last request reads the award: the row then holds these sales from band 1 on, 0 up to place 64, and then what
+// it was lent with.
+pub fn check_sold<R: Abort + AllocGlobal, P: PriceRule + Drop, B: BoundingRule + Drop>(
+    rt: &R,
+    asks: Vec<Request<P, B>>,
+    last: &[Told],
+    sales: &[u64],
+) -> Result<(), Fail> {
+    let run = check_run(rt, asks, last)?;
+    check_row(rt, &run, sales)
+}
+
+fn check_row(rt: &impl Abort, run: &Run, sales: &[u64]) -> Result<(), Fail> {
+    let Some(
+        Moment {
+            reply: Reply::Awarded(_, row),
+            ..
+        },
+    ) = run.moments.last()
+    else {
+        return Err(Fail::new("no award was read"));
+    };
+    for (place, sold) in row.iter().enumerate() {
+        let rest = if place < 64 { 0 } else { 7 };
+        let expected = sales.get(place).copied().unwrap_or(rest);
+        assert_eq!(rt; *sold, expected, "place {place}");
+    }
+    Ok(())
+}
+
+// Once all that is asked is done, the round is closed as filed, searched to its end under limits and all-in joined, and comes
+// to this: choices, the choice awarded, its surplus in pesos, and what the bands are sold.
+pub fn check_award<R: Abort + AllocGlobal>(
+    rt: &R,
+    mut asks: Vec<Ask>,
+    choices: u64,
+    choice: u64,
+    surplus: i64,
+    sales: &[u64],
+) -> Result<(), Fail> {
+    let heap = rt.alloc();
+    asks.push(Request::Close(Filed))?;
+    asks.push(Request::Search(LIMITS_AND_ALL_IN, 1_000_000))?;
+    asks.push(Request::ReadAward(row(heap, 64)?))?;
+    let last = [
+        Told::Found(choices, surplus),
+        Told::Awarded(choice, surplus),
+    ];
+    check_sold(rt, asks, &last, sales)
+}

@@ -1,0 +1,316 @@
+// Runs of calls: what each state takes, what a refused call leaves, and rounds that are closed more than once.
+use crate::fixtures::{
+    Ask, LIMITS_AND_ALL_IN, TWO_PACKAGES, Told, band, check_answers, check_run, check_sold, filing,
+    four_packages, package, refusal, row, six_bands,
+};
+use bounds::ceiling::Ceiling;
+use offers::memory::{Kind, Offer};
+use offers::records::Package;
+use offers::refusals::{Code, Refusal};
+use pricing::currency::Currency;
+use pricing::filed::Filed;
+use pricing::numbers::{Rates, ZoneNumbers};
+use pricing::place::Place;
+use rounds::replays::Run;
+use rounds::requests::{Reply, Request, Round};
+use std::alloc::{AllocError, Global};
+use std::process::Abort;
+use std::test::*;
+
+// Catches up from the sheet of the two-package round.
+fn two_packages(heap: Global) -> Result<Ask, AllocError> {
+    Ok(Request::CatchUp(TWO_PACKAGES.to_vec(heap)?))
+}
+
+// A package of 10 MWh for 20 pesos.
+fn ten_for_20() -> Offer {
+    Offer::Package(package(0, 10, 0, 20))
+}
+
+#[test]
+fn not_taken_while_open(rt: HostRuntime) -> Result<(), Fail> {
+    let heap = rt.alloc();
+    let row = row(heap, 64)?;
+    let asks: Vec<Ask> = vec![in heap;
+        Request::Search(LIMITS_AND_ALL_IN, 1),
+        Request::Reopen,
+        Request::ReadAward(row),
+    ]?;
+    check_answers(&rt, asks, &[Told::NotTaken; 3])
+}
+
+// The search comes to what it would have come to without the calls that are not taken.
+#[test]
+fn not_taken_while_closed(rt: HostRuntime) -> Result<(), Fail> {
+    let heap = rt.alloc();
+    let catch_up = two_packages(heap)?;
+    let row = row(heap, 64)?;
+    let asks = vec![in heap;
+        catch_up,
+        Request::Close(Filed),
+        Request::File(3, ten_for_20()),
+        Request::Withdraw(Kind::Package, 1),
+        Request::CatchUp(Vec::new(heap)),
+        Request::Close(Filed),
+        Request::ReadAward(row),
+        Request::Search(LIMITS_AND_ALL_IN, 100),
+    ]?;
+    let last = [
+        Told::NotTaken,
+        Told::NotTaken,
+        Told::NotTaken,
+        Told::NotTaken,
+        Told::NotTaken,
+        Told::Found(4, 30),
+    ];
+    check_answers(&rt, asks, &last)
+}
+
+// And so does the award.
+#[test]
+fn not_taken_while_awarded(rt: HostRuntime) -> Result<(), Fail> {
+    let heap = rt.alloc();
+    let catch_up = two_packages(heap)?;
+    let row = row(heap, 64)?;
+    let asks = vec![in heap;
+        catch_up,
+        Request::Close(Filed),
+        Request::Search(LIMITS_AND_ALL_IN, 100),
+        Request::File(3, ten_for_20()),
+        Request::Withdraw(Kind::Package, 1),
+        Request::CatchUp(Vec::new(heap)),
+        Request::Close(Filed),
+        Request::Search(LIMITS_AND_ALL_IN, 100),
+        Request::ReadAward(row),
+    ]?;
+    let last = [
+        Told::Found(4, 30),
+        Told::NotTaken,
+        Told::NotTaken,
+        Told::NotTaken,
+        Told::NotTaken,
+        Told::NotTaken,
+        Told::Awarded(1, 30),
+    ];
+    check_sold(&rt, asks, &last, &[10])
+}
+
+// With its package withdrawn the round has one choice. A count of steps outside its range is refused even so, and one within
+// makes no step.
+#[test]
+fn nothing_open(rt: HostRuntime) -> Result<(), Fail> {
+    let heap = rt.alloc();
+    let row = row(heap, 64)?;
+    let asks = vec![in heap;
+        Request::File(1, ten_for_20()),
+        Request::File(1, band(4, 10, 5)),
+        Request::Withdraw(Kind::Package, 1),
+        Request::Close(Filed),
+        Request::Search(LIMITS_AND_ALL_IN, 0),
+        Request::Search(LIMITS_AND_ALL_IN, 1_000_001),
+        Request::Search(LIMITS_AND_ALL_IN, 1),
+        Request::ReadAward(row),
+    ]?;
+    let outside = Told::Refused(refusal(Code::StepsOutside, 0, 0, 0, 0));
+    let last = [outside, outside, Told::Found(1, 0), Told::Awarded(0, 0)];
+    check_sold(&rt, asks, &last, &[0])
+}
+
+// What the award of the two-package round is answered into a row of so many places, and what the row holds then.
+fn check_row_of<R: Abort + AllocGlobal>(
+    rt: &R,
+    places: usize,
+    told: Told,
+    sales: &[u64],
+) -> Result<(), Fail> {
+    let heap = rt.alloc();
+    let catch_up = two_packages(heap)?;
+    let row = row(heap, places)?;
+    let asks = vec![in heap;
+        catch_up,
+        Request::Close(Filed),
+        Request::Search(LIMITS_AND_ALL_IN, 100),
+        Request::ReadAward(row),
+    ]?;
+    check_sold(rt, asks, &[Told::Found(4, 30), told], sales)
+}
+
+// Place 65 is kept.
+#[test]
+fn longer_row(rt: HostRuntime) -> Result<(), Fail> {
+    check_row_of(&rt, 65, Told::Awarded(1, 30), &[10])
+}
+
+// Every place is kept.
+#[test]
+fn shorter_row(rt: HostRuntime) -> Result<(), Fail> {
+    let no_room = refusal(Code::NoRoom, 0, 0, 0, 0);
+    check_row_of(&rt, 63, Told::Refused(no_room), &[7; 63])
+}
+
+// Asks for the two-package round's sheet in a buffer that is two bytes longer, and in one that is a byte too short. Both hold a
+// 7 at every place.
+fn ask_for_sheets(asks: &mut Vec<Ask>, heap: Global) -> Result<(), AllocError> {
+    for places in [88, 85] {
+        let buffer = vec![in heap; 7u8; places]?;
+        asks.push(Request::WriteSheet(buffer))?;
+    }
+    Ok(())
+}
+
+// Each buffer of a run that was long enough begins with the sheet, and all the rest is as it was lent.
+fn check_buffers(rt: &impl Abort, run: &Run) {
+    for moment in &run.moments {
+        if let Reply::Written(answer, buffer) = &moment.reply {
+            let sheet = if answer.is_ok() {
+                TWO_PACKAGES.as_slice()
+            } else {
+                &[]
+            };
+            for (place, byte) in buffer.iter().enumerate() {
+                let expected = sheet.get(place).copied().unwrap_or(7);
+                assert_eq!(rt; *byte, expected, "place {place}");
+            }
+        }
+    }
+}
+
+// The two-package round is open, closed and awarded, and each time its sheet is asked for.
+#[test]
+fn sheet_in_each_state(rt: HostRuntime) -> Result<(), Fail> {
+    let heap = rt.alloc();
+    let mut asks = Vec::new(heap);
+    asks.push(two_packages(heap)?)?;
+    ask_for_sheets(&mut asks, heap)?;
+    asks.push(Request::Close(Filed))?;
+    ask_for_sheets(&mut asks, heap)?;
+    asks.push(Request::Search(LIMITS_AND_ALL_IN, 100))?;
+    ask_for_sheets(&mut asks, heap)?;
+    let no_room = Told::Refused(refusal(Code::NoRoom, 0, 0, 0, 0));
+    let last = [
+        Told::Written(86),
+        no_room,
+        Told::Done,
+        Told::Written(86),
+        no_room,
+        Told::Found(4, 30),
+        Told::Written(86),
+        no_room,
+    ];
+    let run = check_run(&rt, asks, &last)?;
+    check_buffers(&rt, &run);
+    Ok(())
+}
+
+// The four-package round is reopened while it is searched and again when it is awarded, and then package 3 is withdrawn.
+#[test]
+fn reopened(rt: HostRuntime) -> Result<(), Fail> {
+    let heap = rt.alloc();
+    let mut asks = filing(heap, &four_packages(), &six_bands(), &[])?;
+    let row = row(heap, 64)?;
+    asks.append(&mut vec![in heap;
+        Request::Close(Filed),
+        Request::Search(LIMITS_AND_ALL_IN, 5),
+        Request::Reopen,
+        Request::Close(Filed),
+        Request::Search(LIMITS_AND_ALL_IN, 100),
+        Request::Reopen,
+        Request::Withdraw(Kind::Package, 3),
+        Request::Close(Filed),
+        Request::Search(LIMITS_AND_ALL_IN, 100),
+        Request::ReadAward(row),
+    ]?)?;
+    let last = [
+        Told::Found(4, 68_000_000),
+        Told::Reopened,
+        Told::Done,
+        Told::Found(16, 123_500_000),
+        Told::Reopened,
+        Told::Done,
+        Told::Done,
+        Told::Found(8, 87_500_000),
+        Told::Awarded(7, 87_500_000),
+    ];
+    check_sold(&rt, asks, &last, &[50, 30, 150_000, 0, 150_000, 0])
+}
+
+// Closes with currency on place on filed, every number the greatest.
+fn close_dearest() -> Result<Request<Currency<Place<Filed>>, Ceiling>, Refusal> {
+    Ok(Request::Close(Currency {
+        rates: Rates::new(11_000, 20_000)?,
+        below: Place {
+            numbers: ZoneNumbers::new([1_000; 16])?,
+            below: Filed,
+        },
+    }))
+}
+
+// The answer to a closing where this package's price is a fault of the third rule from below.
+fn no_price(number: u8) -> Told {
+    Told::Refused(Refusal {
+        depth: 3,
+        ..refusal(Code::PriceFault, 1, number, 0, 0)
+    })
+}
+
+// Two packages have no price. The lowest-numbered of them refuses the closing, and the round stays open.
+#[test]
+fn price_fault(rt: HostRuntime) -> Result<(), Fail> {
+    let dear = Offer::Package(Package {
+        dollar: 1,
+        ..package(0, 10_000_000, 0, 10_000_000_000)
+    });
+    let close = close_dearest()?;
+    let close_again = close_dearest()?;
+    let asks = vec![in rt.alloc();
+        Request::File(7, dear),
+        Request::File(3, dear),
+        Request::File(1, ten_for_20()),
+        close,
+        Request::Withdraw(Kind::Package, 7),
+        Request::Withdraw(Kind::Package, 3),
+        close_again,
+    ]?;
+    let last = [no_price(3), Told::Done, Told::Done, Told::Done];
+    check_answers(&rt, asks, &last)
+}
+
+// Package 1 of the two-package round is withdrawn by a request and then stands open on an older sheet: package 2 is awarded.
+fn check_package_2<R: Abort + AllocGlobal>(rt: &R, withdraw: Ask) -> Result<(), Fail> {
+    let heap = rt.alloc();
+    let catch_up = two_packages(heap)?;
+    let catch_up_again = two_packages(heap)?;
+    let asks = vec![in heap;
+        catch_up,
+        withdraw,
+        catch_up_again,
+        Request::Close(Filed),
+        Request::Search(LIMITS_AND_ALL_IN, 100),
+    ]?;
+    let run = check_run(rt, asks, &[Told::Found(2, 30)])?;
+    check_open(rt, &run.round, 2)
+}
+
+// This package alone was open at the closing of an awarded round.
+fn check_open(rt: &impl Abort, round: &Round, number: u8) -> Result<(), Fail> {
+    let Round::Awarded(awarded) = round else {
+        return Err(Fail::new("not awarded"));
+    };
+    let open = awarded.docket().packages.list.as_slice();
+    assert_eq!(rt; open.len(), 1);
+    assert_eq!(rt; open[0].number, number);
+    Ok(())
+}
+
+#[test]
+fn withdrawal_outlives_an_older_sheet(rt: HostRuntime) -> Result<(), Fail> {
+    check_package_2(&rt, Request::Withdraw(Kind::Package, 1))
+}
+
+// The same where a newer sheet has it withdrawn.
+#[test]
+fn withdrawn_on_a_sheet(rt: HostRuntime) -> Result<(), Fail> {
+    let mut sheet = *TWO_PACKAGES;
+    sheet[4] = 2;
+    check_package_2(&rt, Request::CatchUp(sheet.to_vec(rt.alloc())?))
+}
