@@ -1,5 +1,8 @@
-// What is told of a round in words: an award, or the refusal of a sheet.
+// What is told of a round in words.
 #![tactic(auto)]
 
-// `Report`: what an awarded round took and sold, and its text. `RefusedSheet`: the text of a refusal.
+// Of an awarded round, and of a sheet that is refused:
+//   Report         what was open, what is taken and sold, and the surplus; its text is what is printed
+//   Report::of     the report of an awarded round
+//   RefusedSheet   a refusal, whose text is what is printed
 pub mod report;

@@ -60,13 +60,25 @@ impl Round {
     }
 }
 
+// Who wants to know how far a run is; `()` wants to know nothing.
+pub trait Watch {
+    // Requests made of all.
+    fn made(&mut self, requests: usize, all: usize);
+}
+
+impl Watch for () {
+    fn made(&mut self, _requests: usize, _all: usize) {}
+}
+
 // Makes a whole run from an open and vacant round, and keeps every moment of it.
-pub fn replay<P: PriceRule + Drop, B: BoundingRule + Drop>(
+pub fn replay<P: PriceRule + Drop, B: BoundingRule + Drop, W: Watch>(
     heap: Global,
     requests: Vec<Request<P, B>>,
+    watch: &mut W,
 ) -> Result<Run, AllocError>
     ensures { IfOk result (Replays (map (call_of P.PriceRule.meaning B.BoundingRule.answers) requests.items)) }
 {
+    let all = requests.len();
     let mut round = Round::Open(OpenRound::new(heap)?);
     let mut moments = Vec::new(heap);
     for request in requests {
@@ -77,6 +89,7 @@ pub fn replay<P: PriceRule + Drop, B: BoundingRule + Drop>(
             offers: round.offers(),
             stage: round.stage(),
         })?;
+        watch.made(moments.len(), all);
     }
     Ok(Run { round, moments })
 }
