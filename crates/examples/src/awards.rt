@@ -1,6 +1,6 @@
 // Awards of other rounds than the worked ones: each rule of lawfulness that those leave out, and other bounding rules.
 use crate::fixtures::{
-    Told, band, check_answers, check_award, filing, four_packages, limit, needs, package,
+    Told, band, check_answers, check_award, excluded, filing, four_packages, limit, needs, package,
     six_bands, unqualified,
 };
 use bounds::all_in::AllIn;
@@ -9,9 +9,11 @@ use bounds::ceiling::Ceiling;
 use bounds::joined::Joined;
 use bounds::limits::Limits;
 use bounds::one_by_one::OneByOne;
-use offers::memory::Offer;
+use offers::memory::{Kind, Offer};
 use offers::records::Package;
 use pricing::filed::Filed;
+use pricing::numbers::ZoneNumbers;
+use pricing::place::Place;
 use rounds::requests::Request;
 use rounds::rules::OneOf;
 use std::process::Abort;
@@ -22,74 +24,63 @@ use std::test::*;
 fn qualified_not_counted(rt: HostRuntime) -> Result<(), Fail> {
     let mut packages = four_packages().map(unqualified);
     packages[0].unqualified = 0;
-    let asks = filing(rt.alloc(), &packages, &six_bands(), &[limit(1, 1, 49)])?;
+    let requests = filing(rt.alloc(), &packages, &six_bands(), &[limit(1, 1, 49)])?;
     let sales = [50, 20, 150_000, 60_000, 150_000, 60_000];
-    check_award(&rt, asks, 16, 7, 116_500_000, &sales)
+    check_award(&rt, requests, 16, 7, 116_500_000, &sales)
 }
 
 // Packages 1 and 3 together are 210,000 MWh a year.
 #[test]
 fn export_within_210000(rt: HostRuntime) -> Result<(), Fail> {
     let packages = four_packages().map(unqualified);
-    let asks = filing(rt.alloc(), &packages, &six_bands(), &[limit(2, 1, 210_000)])?;
+    let requests = filing(rt.alloc(), &packages, &six_bands(), &[limit(2, 1, 210_000)])?;
     let sales = [50, 20, 150_000, 60_000, 150_000, 60_000];
-    check_award(&rt, asks, 16, 7, 116_500_000, &sales)
+    check_award(&rt, requests, 16, 7, 116_500_000, &sales)
 }
 
 #[test]
 fn export_within_209999(rt: HostRuntime) -> Result<(), Fail> {
     let packages = four_packages().map(unqualified);
-    let asks = filing(rt.alloc(), &packages, &six_bands(), &[limit(2, 1, 209_999)])?;
+    let requests = filing(rt.alloc(), &packages, &six_bands(), &[limit(2, 1, 209_999)])?;
     let sales = [50, 20, 120_000, 0, 120_000, 0];
-    check_award(&rt, asks, 16, 14, 103_000_000, &sales)
+    check_award(&rt, requests, 16, 14, 103_000_000, &sales)
 }
 
-// Package 3 is dated: its 20 MW are 25 per cent of 80 MW sold, its 90,000 certificates 37.5 per cent of 240,000.
+// The four-package round with the third dated so, and its power or certificates limited to a percentage; of two percentages the
+// least binds.
+fn check_dated<R: Abort + AllocGlobal>(
+    rt: &R,
+    date: u8,
+    zone: u8,
+    amount: u32,
+    choice: u64,
+    surplus: i64,
+    sales: &[u64],
+) -> Result<(), Fail> {
+    let mut packages = four_packages();
+    packages[2].date = date;
+    let limits = [limit(3, zone, amount), limit(3, zone, 100)];
+    let requests = filing(rt.alloc(), &packages, &six_bands(), &limits)?;
+    check_award(rt, requests, 16, choice, surplus, sales)
+}
+
+// Packages 1, 3 and 4 sell 80 MW and 240,000 certificates: the third's 20 MW are 25 per cent, its 90,000 certificates 37.5.
 #[test]
-fn percentages(rt: HostRuntime) -> Result<(), Fail> {
-    for (date, zone, amount, choice, surplus, sales) in [
-        (
-            2,
-            2,
-            25,
-            13,
-            123_500_000,
-            [50, 30, 150_000, 90_000, 150_000, 90_000],
-        ),
-        (
-            2,
-            2,
-            24,
-            15,
-            118_500_000,
-            [50, 40, 150_000, 90_000, 150_000, 90_000],
-        ),
-        (
-            1,
-            3,
-            38,
-            13,
-            123_500_000,
-            [50, 30, 150_000, 90_000, 150_000, 90_000],
-        ),
-        (1, 3, 37, 11, 87_500_000, [50, 30, 150_000, 0, 150_000, 0]),
-        (
-            2,
-            4,
-            38,
-            13,
-            123_500_000,
-            [50, 30, 150_000, 90_000, 150_000, 90_000],
-        ),
-        (2, 4, 37, 11, 87_500_000, [50, 30, 150_000, 0, 150_000, 0]),
-    ] {
-        let mut packages = four_packages();
-        packages[2].date = date;
-        let others = [limit(3, zone, amount)];
-        let asks = filing(rt.alloc(), &packages, &six_bands(), &others)?;
-        check_award(&rt, asks, 16, choice, surplus, &sales)?;
-    }
-    Ok(())
+fn percentages_kept(rt: HostRuntime) -> Result<(), Fail> {
+    let sales = [50, 30, 150_000, 90_000, 150_000, 90_000];
+    check_dated(&rt, 2, 2, 25, 13, 123_500_000, &sales)?;
+    check_dated(&rt, 1, 3, 38, 13, 123_500_000, &sales)?;
+    check_dated(&rt, 2, 4, 38, 13, 123_500_000, &sales)
+}
+
+// All four sell more power, but no more certificates.
+#[test]
+fn percentages_broken(rt: HostRuntime) -> Result<(), Fail> {
+    let with_all = [50, 40, 150_000, 90_000, 150_000, 90_000];
+    check_dated(&rt, 2, 2, 24, 15, 118_500_000, &with_all)?;
+    let without = [50, 30, 150_000, 0, 150_000, 0];
+    check_dated(&rt, 1, 3, 37, 11, 87_500_000, &without)?;
+    check_dated(&rt, 2, 4, 37, 11, 87_500_000, &without)
 }
 
 // A percentage of power is of one power zone: package 1 is all that zone 2 sells, and a quarter of what zones 2 and 3 sell.
@@ -107,8 +98,8 @@ fn power_zones_apart(rt: HostRuntime) -> Result<(), Fail> {
         },
     ];
     let bands = [band(2, 10, 5), band(3, 40, 5)];
-    let asks = filing(rt.alloc(), &packages, &bands, &[limit(3, 1, 25)])?;
-    check_award(&rt, asks, 4, 2, 150, &[0, 30])
+    let requests = filing(rt.alloc(), &packages, &bands, &[limit(3, 1, 25)])?;
+    check_award(&rt, requests, 4, 2, 150, &[0, 30])
 }
 
 // Package 1 is a MW too much for interconnection zone 2, package 3 a MWh for export zone 3; zone 1 has room for the others.
@@ -118,22 +109,42 @@ fn zones_of_limits_apart(rt: HostRuntime) -> Result<(), Fail> {
     packages[0].interconnection_zone = 2;
     packages[2].export_zone = 3;
     let limits = [limit(1, 2, 29), limit(2, 3, 89_999), limit(1, 1, 50)];
-    let asks = filing(rt.alloc(), &packages, &six_bands(), &limits)?;
+    let requests = filing(rt.alloc(), &packages, &six_bands(), &limits)?;
     let sales = [50, 0, 30_000, 0, 30_000, 0];
-    check_award(&rt, asks, 16, 10, 39_500_000, &sales)
+    check_award(&rt, requests, 16, 10, 39_500_000, &sales)
+}
+
+// Package 1 needs 4, and 4 needs 2.
+#[test]
+fn chain_of_pairs(rt: HostRuntime) -> Result<(), Fail> {
+    let pairs = [needs(1, 4), needs(4, 2)];
+    let requests = filing(rt.alloc(), &four_packages(), &six_bands(), &pairs)?;
+    let sales = [50, 40, 150_000, 90_000, 150_000, 90_000];
+    check_award(&rt, requests, 16, 15, 118_500_000, &sales)
+}
+
+// A group with one member left forbids nothing, and a band that is withdrawn buys nothing.
+#[test]
+fn withdrawn_rule_and_band(rt: HostRuntime) -> Result<(), Fail> {
+    let members = [excluded(1), excluded(3)];
+    let mut requests = filing(rt.alloc(), &four_packages(), &six_bands(), &members)?;
+    requests.push(Request::Withdraw(Kind::Exclusion, 2))?;
+    requests.push(Request::Withdraw(Kind::Band, 2))?;
+    let sales = [50, 0, 150_000, 60_000, 150_000, 60_000];
+    check_award(&rt, requests, 16, 5, 111_500_000, &sales)
 }
 
 // The dearest band is filled first; of equal ones the lowest number, in whatever order they were filed.
 #[test]
 fn bands_of_equal_price(rt: HostRuntime) -> Result<(), Fail> {
-    let asks = vec![in rt.alloc();
+    let requests = vec![in rt.alloc();
         Request::File(9, band(4, 4, 5)),
         Request::File(5, band(4, 3, 6)),
         Request::File(2, band(4, 10, 5)),
         Request::File(1, band(4, 4, 5)),
         Request::File(40, Offer::Package(package(0, 10, 0, 20))),
     ]?;
-    check_award(&rt, asks, 2, 1, 33, &[4, 3, 0, 0, 3])
+    check_award(&rt, requests, 2, 1, 33, &[4, 3, 0, 0, 3])
 }
 
 // The four-package round where package 3 needs 2, searched under a rule: it ends with the last of so many steps.
@@ -143,12 +154,12 @@ fn check_steps<R: Abort + AllocGlobal, B: BoundingRule + Copy + Drop>(
     steps: u32,
 ) -> Result<(), Fail> {
     let others = [needs(3, 2)];
-    let mut asks = filing(rt.alloc(), &four_packages(), &six_bands(), &others)?;
-    asks.push(Request::Close(Filed))?;
-    asks.push(Request::Search(rule, steps.saturating_sub(1)))?;
-    asks.push(Request::Search(rule, 1))?;
+    let mut requests = filing(rt.alloc(), &four_packages(), &six_bands(), &others)?;
+    requests.push(Request::Close(Filed))?;
+    requests.push(Request::Search(rule, steps.saturating_sub(1)))?;
+    requests.push(Request::Search(rule, 1))?;
     let last = [Told::Found(15, 116_500_000), Told::Found(16, 118_500_000)];
-    check_answers(rt, asks, &last)
+    check_answers(rt, requests, &last)
 }
 
 #[test]
@@ -163,15 +174,40 @@ fn steps_under_each_rule(rt: HostRuntime) -> Result<(), Fail> {
 // Three searches of one round, each under another rule.
 #[test]
 fn different_rules(rt: HostRuntime) -> Result<(), Fail> {
-    let mut asks = filing(rt.alloc(), &four_packages(), &six_bands(), &[])?;
-    asks.push(Request::Close(Filed))?;
-    asks.push(Request::Search(OneOf::First(Ceiling), 5))?;
-    asks.push(Request::Search(OneOf::Second(OneOf::First(OneByOne)), 3))?;
-    asks.push(Request::Search(OneOf::Second(OneOf::Second(AllIn)), 100))?;
+    let mut requests = filing(rt.alloc(), &four_packages(), &six_bands(), &[])?;
+    requests.push(Request::Close(Filed))?;
+    requests.push(Request::Search(OneOf::First(Ceiling), 5))?;
+    requests.push(Request::Search(OneOf::Second(OneOf::First(OneByOne)), 3))?;
+    requests.push(Request::Search(OneOf::Second(OneOf::Second(AllIn)), 100))?;
     let last = [
         Told::Found(4, 68_000_000),
         Told::Found(6, 111_500_000),
         Told::Found(16, 123_500_000),
     ];
-    check_answers(&rt, asks, &last)
+    check_answers(&rt, requests, &last)
+}
+
+// A round that is closed as filed, and again with a number for its zone.
+#[test]
+fn different_price_rules(rt: HostRuntime) -> Result<(), Fail> {
+    let place = Place {
+        numbers: ZoneNumbers::new([-3; 16])?,
+        below: Filed,
+    };
+    let requests = vec![in rt.alloc();
+        Request::File(1, Offer::Package(package(0, 10, 0, 20))),
+        Request::File(1, band(4, 10, 5)),
+        Request::Close(OneOf::First(Filed)),
+        Request::Search(AllIn, 1),
+        Request::Reopen,
+        Request::Close(OneOf::Second(place)),
+        Request::Search(AllIn, 1),
+    ]?;
+    let last = [
+        Told::Found(2, 30),
+        Told::Reopened,
+        Told::Done,
+        Told::Found(2, 60),
+    ];
+    check_answers(&rt, requests, &last)
 }

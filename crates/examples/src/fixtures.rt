@@ -6,7 +6,10 @@ use bounds::limits::Limits;
 use offers::memory::Offer;
 use offers::records::{Band, Exclusion, Limit, Package, Pair};
 use offers::refusals::{Code, Refusal};
+use pricing::currency::Currency;
 use pricing::filed::Filed;
+use pricing::numbers::{Rates, ZoneNumbers};
+use pricing::place::Place;
 use pricing::rules::PriceRule;
 use rounds::replays::{Moment, Run, replay};
 use rounds::requests::{Reply, Request};
@@ -112,8 +115,25 @@ pub const TWO_PACKAGES: &[u8; 86] =
     \x00\x00\x00\x00\x00\x00\x00\x14\x01\x01\x01\x01\x00\x00\x00\
     \x02\x00\x0b\x01\x01\x04\x00\x00\x00\x0a\x00\x00\x00\x05";
 
+// Currency on place on filed, with one number for price zone 1 and 0 for the others.
+pub fn stack(
+    number: i64,
+    preference: u32,
+    expectation: u32,
+) -> Result<Currency<Place<Filed>>, Refusal> {
+    let mut numbers = [0i64; 16];
+    numbers[0] = number;
+    Ok(Currency {
+        rates: Rates::new(preference, expectation)?,
+        below: Place {
+            numbers: ZoneNumbers::new(numbers)?,
+            below: Filed,
+        },
+    })
+}
+
 // What most rounds are asked: they are closed as filed, and searched under limits and all-in joined.
-pub type Ask = Request<Filed, Joined<Limits, AllIn>>;
+pub type UsualRequest = Request<Filed, Joined<Limits, AllIn>>;
 
 pub const LIMITS_AND_ALL_IN: Joined<Limits, AllIn> = Joined(Limits, AllIn);
 
@@ -124,23 +144,31 @@ pub fn filing<P: Drop, B: Drop>(
     bands: &[Offer],
     others: &[Offer],
 ) -> Result<Vec<Request<P, B>>, AllocError> {
-    let mut asks = Vec::new(heap);
+    let mut requests = Vec::new(heap);
     for (number, package) in (1..=40).zip(packages) {
-        asks.push(Request::File(number, Offer::Package(*package)))?;
+        requests.push(Request::File(number, Offer::Package(*package)))?;
     }
     for (number, offer) in (1..=64).zip(bands).chain((1..=64).zip(others)) {
-        asks.push(Request::File(number, *offer))?;
+        requests.push(Request::File(number, *offer))?;
     }
-    Ok(asks)
+    Ok(requests)
+}
+
+// A row for an award, of so many places that each hold a 7.
+pub fn row(heap: Global, places: usize) -> Result<Vec<u64>, AllocError> {
+    Ok(vec![in heap; 7u64; places]?)
 }
 
 // What a request is answered, without its row or buffer.
 #[derive(Clone, Copy, PartialEq, Eq, Debug)]
 pub enum Told {
     Done,
+    // choices settled, and the leader's surplus
     Found(u64, i64),
     Reopened,
+    // the choice, and its surplus
     Awarded(u64, i64),
+    // the sheet's length
     Written(usize),
     Refused(Refusal),
     NotTaken,
@@ -163,14 +191,15 @@ impl Told {
     }
 }
 
-// Makes a run, of which the last requests are answered so and each before them is done.
+// The run of these requests, of which the last are answered so and each before them is done.
 pub fn check_run<R: Abort + AllocGlobal, P: PriceRule + Drop, B: BoundingRule + Drop>(
     rt: &R,
-    asks: Vec<Request<P, B>>,
+    requests: Vec<Request<P, B>>,
     last: &[Told],
 ) -> Result<Run, Fail> {
-    let run = replay(rt.alloc(), asks)?;
-    let before = run.moments.len().saturating_sub(last.len());
+    let run = replay(rt.alloc(), requests)?;
+    assert!(rt; last.len() <= run.moments.len());
+    let before = run.moments.len() - last.len();
     for (at, moment) in run.moments.iter().enumerate() {
         let expected = match at.checked_sub(before) {
             Some(place) => last.get(place).copied().unwrap_or(Told::NotTaken),
@@ -181,30 +210,25 @@ pub fn check_run<R: Abort + AllocGlobal, P: PriceRule + Drop, B: BoundingRule + 
     Ok(run)
 }
 
-// A row for an award, of so many places that each hold a 7.
-pub fn row(heap: Global, places: usize) -> Result<Vec<u64>, AllocError> {
-    Ok(vec![in heap; 7u64; places]?)
-}
-
-// So is a run of which nothing else is looked at.
+// The same of a run of which nothing else is looked at.
 pub fn check_answers<R: Abort + AllocGlobal, P: PriceRule + Drop, B: BoundingRule + Drop>(
     rt: &R,
-    asks: Vec<Request<P, B>>,
+    requests: Vec<Request<P, B>>,
     last: &[Told],
 ) -> Result<(), Fail> {
-    check_run(rt, asks, last)?;
+    check_run(rt, requests, last)?;
     Ok(())
 }
 
-// And one whose last request reads the award: the row then holds these sales from band 1 on, 0 up to place 64, and then what
-// it was lent with.
+// The same of one that reads its award last: the row then has these sales from band 1 on, 0 up to place 64, and then what it
+// was lent with.
 pub fn check_sold<R: Abort + AllocGlobal, P: PriceRule + Drop, B: BoundingRule + Drop>(
     rt: &R,
-    asks: Vec<Request<P, B>>,
+    requests: Vec<Request<P, B>>,
     last: &[Told],
     sales: &[u64],
 ) -> Result<(), Fail> {
-    let run = check_run(rt, asks, last)?;
+    let run = check_run(rt, requests, last)?;
     check_row(rt, &run, sales)
 }
 
@@ -226,23 +250,23 @@ fn check_row(rt: &impl Abort, run: &Run, sales: &[u64]) -> Result<(), Fail> {
     Ok(())
 }
 
-// Once all that is asked is done, the round is closed as filed, searched to its end under limits and all-in joined, and comes
-// to this: choices, the choice awarded, its surplus in pesos, and what the bands are sold.
+// A round that is asked this, closed as filed and searched to its end under limits and all-in joined comes to so many choices,
+// the choice that is awarded, its surplus in pesos, and what the bands are sold.
 pub fn check_award<R: Abort + AllocGlobal>(
     rt: &R,
-    mut asks: Vec<Ask>,
+    mut requests: Vec<UsualRequest>,
     choices: u64,
     choice: u64,
     surplus: i64,
     sales: &[u64],
 ) -> Result<(), Fail> {
     let heap = rt.alloc();
-    asks.push(Request::Close(Filed))?;
-    asks.push(Request::Search(LIMITS_AND_ALL_IN, 1_000_000))?;
-    asks.push(Request::ReadAward(row(heap, 64)?))?;
+    requests.push(Request::Close(Filed))?;
+    requests.push(Request::Search(LIMITS_AND_ALL_IN, 1_000_000))?;
+    requests.push(Request::ReadAward(row(heap, 64)?))?;
     let last = [
         Told::Found(choices, surplus),
         Told::Awarded(choice, surplus),
     ];
-    check_sold(rt, asks, &last, sales)
+    check_sold(rt, requests, &last, sales)
 }

@@ -37,7 +37,8 @@ pub fn twelve_rounds()
     ensures { TwelveRounds }
 {}
 
-// What the round's own stack of price rules means, by the numbers that its rules hold. This is its proof.
+// The round's own stack of price rules means what the tenth of them says it does, whatever numbers its rules hold.
 pub fn stack_means(stack: &Currency<Place<Filed>>)
-    ensures { (p : Package) → ⟦<Currency<Place<Filed>> as PriceRule>⟧.meaning stack.now p ≡ stack_price stack.now.rates.preference stack.now.rates.expectation stack.now.below.numbers.numbers p }
+    ensures { (p : Package) → ⟦<Currency<Place<Filed>> as PriceRule>⟧.meaning stack.now p
+        ≡ stack_price stack.now.rates.preference stack.now.rates.expectation stack.now.below.numbers.numbers p }
 {}

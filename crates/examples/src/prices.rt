@@ -1,30 +1,9 @@
 // Prices by the filed, the place and the currency rule, and their faults.
-use crate::fixtures::{package, refusal};
+use crate::fixtures::{package, refusal, stack};
 use offers::records::Package;
-use offers::refusals::{Code, Refusal};
-use pricing::currency::Currency;
-use pricing::filed::Filed;
-use pricing::numbers::{Rates, ZoneNumbers};
-use pricing::place::Place;
+use offers::refusals::Code;
 use pricing::rules::{Fault, PriceRule};
 use std::test::*;
-
-// Currency on place on filed, with one number for price zone 1 and 0 for the others.
-fn stack(
-    number: i64,
-    preference: u32,
-    expectation: u32,
-) -> Result<Currency<Place<Filed>>, Refusal> {
-    let mut numbers = [0i64; 16];
-    numbers[0] = number;
-    Ok(Currency {
-        rates: Rates::new(preference, expectation)?,
-        below: Place {
-            numbers: ZoneNumbers::new(numbers)?,
-            below: Filed,
-        },
-    })
-}
 
 // A package of this energy and filed price, in dollars.
 fn in_dollars(energy: u32, price: u64) -> Package {

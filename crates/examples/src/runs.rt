@@ -1,16 +1,13 @@
 // Runs of calls: what each state takes, what a refused call leaves, and rounds that are closed more than once.
 use crate::fixtures::{
-    Ask, LIMITS_AND_ALL_IN, TWO_PACKAGES, Told, band, check_answers, check_run, check_sold, filing,
-    four_packages, package, refusal, row, six_bands,
+    LIMITS_AND_ALL_IN, TWO_PACKAGES, Told, UsualRequest, band, check_answers, check_run,
+    check_sold, filing, four_packages, package, refusal, row, six_bands, stack,
 };
 use bounds::ceiling::Ceiling;
 use offers::memory::{Kind, Offer};
 use offers::records::Package;
 use offers::refusals::{Code, Refusal};
-use pricing::currency::Currency;
 use pricing::filed::Filed;
-use pricing::numbers::{Rates, ZoneNumbers};
-use pricing::place::Place;
 use rounds::replays::Run;
 use rounds::requests::{Reply, Request, Round};
 use std::alloc::{AllocError, Global};
@@ -18,7 +15,7 @@ use std::process::Abort;
 use std::test::*;
 
 // Catches up from the sheet of the two-package round.
-fn two_packages(heap: Global) -> Result<Ask, AllocError> {
+fn two_packages(heap: Global) -> Result<UsualRequest, AllocError> {
     Ok(Request::CatchUp(TWO_PACKAGES.to_vec(heap)?))
 }
 
@@ -31,12 +28,12 @@ fn ten_for_20() -> Offer {
 fn not_taken_while_open(rt: HostRuntime) -> Result<(), Fail> {
     let heap = rt.alloc();
     let row = row(heap, 64)?;
-    let asks: Vec<Ask> = vec![in heap;
+    let requests: Vec<UsualRequest> = vec![in heap;
         Request::Search(LIMITS_AND_ALL_IN, 1),
         Request::Reopen,
         Request::ReadAward(row),
     ]?;
-    check_answers(&rt, asks, &[Told::NotTaken; 3])
+    check_answers(&rt, requests, &[Told::NotTaken; 3])
 }
 
 // The search comes to what it would have come to without the calls that are not taken.
@@ -45,7 +42,7 @@ fn not_taken_while_closed(rt: HostRuntime) -> Result<(), Fail> {
     let heap = rt.alloc();
     let catch_up = two_packages(heap)?;
     let row = row(heap, 64)?;
-    let asks = vec![in heap;
+    let requests = vec![in heap;
         catch_up,
         Request::Close(Filed),
         Request::File(3, ten_for_20()),
@@ -63,7 +60,7 @@ fn not_taken_while_closed(rt: HostRuntime) -> Result<(), Fail> {
         Told::NotTaken,
         Told::Found(4, 30),
     ];
-    check_answers(&rt, asks, &last)
+    check_answers(&rt, requests, &last)
 }
 
 // And so does the award.
@@ -72,7 +69,7 @@ fn not_taken_while_awarded(rt: HostRuntime) -> Result<(), Fail> {
     let heap = rt.alloc();
     let catch_up = two_packages(heap)?;
     let row = row(heap, 64)?;
-    let asks = vec![in heap;
+    let requests = vec![in heap;
         catch_up,
         Request::Close(Filed),
         Request::Search(LIMITS_AND_ALL_IN, 100),
@@ -92,16 +89,16 @@ fn not_taken_while_awarded(rt: HostRuntime) -> Result<(), Fail> {
         Told::NotTaken,
         Told::Awarded(1, 30),
     ];
-    check_sold(&rt, asks, &last, &[10])
+    check_sold(&rt, requests, &last, &[10])
 }
 
-// With its package withdrawn the round has one choice. A count of steps outside its range is refused even so, and one within
-// makes no step.
+// With its package withdrawn a round has one choice. A count of steps out of range is refused even so; one in range makes no
+// step.
 #[test]
 fn nothing_open(rt: HostRuntime) -> Result<(), Fail> {
     let heap = rt.alloc();
     let row = row(heap, 64)?;
-    let asks = vec![in heap;
+    let requests = vec![in heap;
         Request::File(1, ten_for_20()),
         Request::File(1, band(4, 10, 5)),
         Request::Withdraw(Kind::Package, 1),
@@ -113,7 +110,7 @@ fn nothing_open(rt: HostRuntime) -> Result<(), Fail> {
     ]?;
     let outside = Told::Refused(refusal(Code::StepsOutside, 0, 0, 0, 0));
     let last = [outside, outside, Told::Found(1, 0), Told::Awarded(0, 0)];
-    check_sold(&rt, asks, &last, &[0])
+    check_sold(&rt, requests, &last, &[0])
 }
 
 // What the award of the two-package round is answered into a row of so many places, and what the row holds then.
@@ -126,13 +123,13 @@ fn check_row_of<R: Abort + AllocGlobal>(
     let heap = rt.alloc();
     let catch_up = two_packages(heap)?;
     let row = row(heap, places)?;
-    let asks = vec![in heap;
+    let requests = vec![in heap;
         catch_up,
         Request::Close(Filed),
         Request::Search(LIMITS_AND_ALL_IN, 100),
         Request::ReadAward(row),
     ]?;
-    check_sold(rt, asks, &[Told::Found(4, 30), told], sales)
+    check_sold(rt, requests, &[Told::Found(4, 30), told], sales)
 }
 
 // Place 65 is kept.
@@ -148,12 +145,12 @@ fn shorter_row(rt: HostRuntime) -> Result<(), Fail> {
     check_row_of(&rt, 63, Told::Refused(no_room), &[7; 63])
 }
 
-// Asks for the two-package round's sheet in a buffer that is two bytes longer, and in one that is a byte too short. Both hold a
-// 7 at every place.
-fn ask_for_sheets(asks: &mut Vec<Ask>, heap: Global) -> Result<(), AllocError> {
+// Asks for the sheet of the two-package round in a buffer that is two bytes longer, and in one that is a byte too short. Both
+// hold a 7 at every place.
+fn ask_for_sheets(requests: &mut Vec<UsualRequest>, heap: Global) -> Result<(), AllocError> {
     for places in [88, 85] {
         let buffer = vec![in heap; 7u8; places]?;
-        asks.push(Request::WriteSheet(buffer))?;
+        requests.push(Request::WriteSheet(buffer))?;
     }
     Ok(())
 }
@@ -179,13 +176,13 @@ fn check_buffers(rt: &impl Abort, run: &Run) {
 #[test]
 fn sheet_in_each_state(rt: HostRuntime) -> Result<(), Fail> {
     let heap = rt.alloc();
-    let mut asks = Vec::new(heap);
-    asks.push(two_packages(heap)?)?;
-    ask_for_sheets(&mut asks, heap)?;
-    asks.push(Request::Close(Filed))?;
-    ask_for_sheets(&mut asks, heap)?;
-    asks.push(Request::Search(LIMITS_AND_ALL_IN, 100))?;
-    ask_for_sheets(&mut asks, heap)?;
+    let mut requests = Vec::new(heap);
+    requests.push(two_packages(heap)?)?;
+    ask_for_sheets(&mut requests, heap)?;
+    requests.push(Request::Close(Filed))?;
+    ask_for_sheets(&mut requests, heap)?;
+    requests.push(Request::Search(LIMITS_AND_ALL_IN, 100))?;
+    ask_for_sheets(&mut requests, heap)?;
     let no_room = Told::Refused(refusal(Code::NoRoom, 0, 0, 0, 0));
     let last = [
         Told::Written(86),
@@ -197,7 +194,7 @@ fn sheet_in_each_state(rt: HostRuntime) -> Result<(), Fail> {
         Told::Written(86),
         no_room,
     ];
-    let run = check_run(&rt, asks, &last)?;
+    let run = check_run(&rt, requests, &last)?;
     check_buffers(&rt, &run);
     Ok(())
 }
@@ -206,9 +203,9 @@ fn sheet_in_each_state(rt: HostRuntime) -> Result<(), Fail> {
 #[test]
 fn reopened(rt: HostRuntime) -> Result<(), Fail> {
     let heap = rt.alloc();
-    let mut asks = filing(heap, &four_packages(), &six_bands(), &[])?;
+    let mut requests = filing(heap, &four_packages(), &six_bands(), &[])?;
     let row = row(heap, 64)?;
-    asks.append(&mut vec![in heap;
+    requests.append(&mut vec![in heap;
         Request::Close(Filed),
         Request::Search(LIMITS_AND_ALL_IN, 5),
         Request::Reopen,
@@ -231,18 +228,7 @@ fn reopened(rt: HostRuntime) -> Result<(), Fail> {
         Told::Found(8, 87_500_000),
         Told::Awarded(7, 87_500_000),
     ];
-    check_sold(&rt, asks, &last, &[50, 30, 150_000, 0, 150_000, 0])
-}
-
-// Closes with currency on place on filed, every number the greatest.
-fn close_dearest() -> Result<Request<Currency<Place<Filed>>, Ceiling>, Refusal> {
-    Ok(Request::Close(Currency {
-        rates: Rates::new(11_000, 20_000)?,
-        below: Place {
-            numbers: ZoneNumbers::new([1_000; 16])?,
-            below: Filed,
-        },
-    }))
+    check_sold(&rt, requests, &last, &[50, 30, 150_000, 0, 150_000, 0])
 }
 
 // The answer to a closing where this package's price is a fault of the third rule from below.
@@ -260,9 +246,9 @@ fn price_fault(rt: HostRuntime) -> Result<(), Fail> {
         dollar: 1,
         ..package(0, 10_000_000, 0, 10_000_000_000)
     });
-    let close = close_dearest()?;
-    let close_again = close_dearest()?;
-    let asks = vec![in rt.alloc();
+    let close = Request::Close(stack(1_000, 11_000, 20_000)?);
+    let close_again = Request::Close(stack(1_000, 11_000, 20_000)?);
+    let requests: Vec<Request<_, Ceiling>> = vec![in rt.alloc();
         Request::File(7, dear),
         Request::File(3, dear),
         Request::File(1, ten_for_20()),
@@ -272,22 +258,24 @@ fn price_fault(rt: HostRuntime) -> Result<(), Fail> {
         close_again,
     ]?;
     let last = [no_price(3), Told::Done, Told::Done, Told::Done];
-    check_answers(&rt, asks, &last)
+    check_answers(&rt, requests, &last)
 }
 
-// Package 1 of the two-package round is withdrawn by a request and then stands open on an older sheet: package 2 is awarded.
-fn check_package_2<R: Abort + AllocGlobal>(rt: &R, withdraw: Ask) -> Result<(), Fail> {
+// Package 1 of the two-package round is withdrawn by a request, and then stands open on an older sheet: package 2 is awarded.
+fn check_package_2<R: Abort + AllocGlobal>(rt: &R, withdraw: UsualRequest) -> Result<(), Fail> {
     let heap = rt.alloc();
     let catch_up = two_packages(heap)?;
     let catch_up_again = two_packages(heap)?;
-    let asks = vec![in heap;
+    let row = row(heap, 64)?;
+    let requests = vec![in heap;
         catch_up,
         withdraw,
         catch_up_again,
         Request::Close(Filed),
         Request::Search(LIMITS_AND_ALL_IN, 100),
+        Request::ReadAward(row),
     ]?;
-    let run = check_run(rt, asks, &[Told::Found(2, 30)])?;
+    let run = check_run(rt, requests, &[Told::Found(2, 30), Told::Awarded(1, 30)])?;
     check_open(rt, &run.round, 2)
 }
 

@@ -1,6 +1,6 @@
 // What is printed of an award and of a refused sheet.
 use crate::fixtures::{
-    Ask, LIMITS_AND_ALL_IN, TWO_PACKAGES, filing, four_packages, refusal, six_bands,
+    LIMITS_AND_ALL_IN, TWO_PACKAGES, UsualRequest, filing, four_packages, refusal, six_bands,
 };
 use offers::refusals::Code;
 use pricing::filed::Filed;
@@ -14,10 +14,14 @@ use std::process::Abort;
 use std::test::*;
 
 // Once all that is asked is done, the round is closed as filed and searched to its end, and its award has this text.
-fn check_text<R: Abort + AllocGlobal>(rt: &R, mut asks: Vec<Ask>, lines: &str) -> Result<(), Fail> {
-    asks.push(Request::Close(Filed))?;
-    asks.push(Request::Search(LIMITS_AND_ALL_IN, 1_000_000))?;
-    let report = report_of(rt.alloc(), &replay(rt.alloc(), asks)?.round)?;
+fn check_text<R: Abort + AllocGlobal>(
+    rt: &R,
+    mut requests: Vec<UsualRequest>,
+    lines: &str,
+) -> Result<(), Fail> {
+    requests.push(Request::Close(Filed))?;
+    requests.push(Request::Search(LIMITS_AND_ALL_IN, 1_000_000))?;
+    let report = report_of(rt.alloc(), &replay(rt.alloc(), requests)?.round)?;
     assert_eq!(rt; report.to_string(rt.alloc())?.as_str(), lines);
     Ok(())
 }
@@ -37,11 +41,11 @@ fn no_offers(rt: HostRuntime) -> Result<(), Fail> {
 
 #[test]
 fn four_packages_and_six_bands(rt: HostRuntime) -> Result<(), Fail> {
-    let asks = filing(rt.alloc(), &four_packages(), &six_bands(), &[])?;
+    let requests = filing(rt.alloc(), &four_packages(), &six_bands(), &[])?;
     let lines = "open 4 choices 16\npackage 1\npackage 3\npackage 4\n\
         band 1 sold 50\nband 2 sold 30\nband 3 sold 150000\n\
         band 4 sold 90000\nband 5 sold 150000\nband 6 sold 90000\nsurplus 123500000\n";
-    check_text(&rt, asks, lines)
+    check_text(&rt, requests, lines)
 }
 
 // Keeps what it was told last.
