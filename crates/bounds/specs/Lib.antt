@@ -4,3 +4,4 @@ pub mod Caps
 pub mod Costs
 pub mod Parts
 pub mod Gains
+pub mod Chains

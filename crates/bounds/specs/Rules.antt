@@ -1,11 +1,13 @@
 -- What each bounding rule answers. Assumes nothing.
-use Rattle.std.specs.Prelude.{ℕ, zero, suc, ◌+◌, ◌-◌, ◌^◌, cond, ◌&&◌, List, [], ◌∷◌, take, ℤ, pos, ◌+ℤ◌, ◌-ℤ◌, Some, None, Option}
+use Rattle.std.specs.Prelude.{ℕ, zero, suc, ◌+◌, ◌-◌, ◌^◌, cond, ◌&&◌, List, [], ◌∷◌, take, fold, ℤ, pos, ◌+ℤ◌, ◌-ℤ◌, Some, None, Option}
 use Rattle.std.specs.Int.{int_max, int_min}
 use Rattle.clearing.specs.declared.dockets.PricedPackage.{PricedPackage}
 use Rattle.clearing.specs.Choices.{taken, cost}
 use Rattle.clearing.specs.Judging.{pairs_met, groups_apart, zones_within}
 use Rattle.clearing.specs.Lawful.{View, income, surplus, filled_sales}
 use Rattle.bounds.specs.Blocks.{Span, Answers}
+use Rattle.bounds.specs.declared.names.Named.{Named}
+use Rattle.bounds.specs.declared.names.Named.TheVariants.{Ceiling, AllIn, OneByOne, Limits}
 
 -- the choice of a block that takes every free package
 abbrev pub last_of : Span → ℕ
@@ -65,6 +67,21 @@ smaller None other = None
 smaller (Some cap) None = None
 smaller (Some cap) (Some other) = Some (int_min cap other)
 
+-- two rules joined
+abbrev pub joined : Answers → Answers → Answers
+joined one other v b = smaller (one v b) (other v b)
+
 -- the limits rule and the all-in rule joined
 abbrev pub limits_and_all_in : Answers
 limits_and_all_in v b = smaller (limits_kept v b) (all_in v b)
+
+-- any number of rules joined from the left: the first, and the others joined to it one after another
+abbrev pub chained : Answers → List Answers → Answers
+chained first others = fold joined first others
+
+-- the rule that a name picks
+abbrev pub named : Named → Answers
+named Ceiling = always
+named AllIn = all_in
+named OneByOne = one_by_one
+named Limits = limits_kept

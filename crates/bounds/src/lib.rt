@@ -4,6 +4,8 @@
 pub mod all_in;
 pub mod blocks;
 pub mod ceiling;
+pub mod chains;
 pub mod joined;
 pub mod limits;
+pub mod names;
 pub mod one_by_one;
