@@ -197,7 +197,7 @@ pub fn check_run<R: Abort + AllocGlobal, P: PriceRule + Drop, B: BoundingRule + 
     requests: Vec<Request<P, B>>,
     last: &[Told],
 ) -> Result<Run, Fail> {
-    let run = replay(rt.alloc(), requests)?;
+    let run = replay(rt.alloc(), requests, &mut ())?;
     assert!(rt; last.len() <= run.moments.len());
     let before = run.moments.len() - last.len();
     for (at, moment) in run.moments.iter().enumerate() {

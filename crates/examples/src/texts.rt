@@ -21,7 +21,7 @@ fn check_text<R: Abort + AllocGlobal>(
 ) -> Result<(), Fail> {
     requests.push(Request::Close(Filed))?;
     requests.push(Request::Search(LIMITS_AND_ALL_IN, 1_000_000))?;
-    let report = report_of(rt.alloc(), &replay(rt.alloc(), requests)?.round)?;
+    let report = report_of(rt.alloc(), &replay(rt.alloc(), requests, &mut ())?.round)?;
     assert_eq!(rt; report.to_string(rt.alloc())?.as_str(), lines);
     Ok(())
 }
