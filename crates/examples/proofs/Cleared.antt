@@ -37,7 +37,8 @@ best calls round (IsAwarded docket at) choice promise leads =
     subst (Best docket) (ap (λ o. unwrap_or o 0) leads) promise.award.best
 
 -- so a round that comes to something awards its best lawful choice
-pub clears : {calls : List Call} {clearing : Clearing} → Every LawfulCall calls → WorksOut calls clearing → Clears calls clearing
+pub clears : {calls : List Call} {clearing : Clearing} → Every LawfulCall calls → WorksOut calls clearing
+    → Clears calls clearing
 clears {calls} {clearing} laws works_out =
     let promise = promised (cleared calls) (cleared_lawful calls laws) in
     record {

@@ -18,7 +18,7 @@ abbrev pub two_packages_searched : Answers → ℕ → List Call
 two_packages_searched rule steps =
     CatchUp two_packages_sheet ∷ Close filed_price ∷ Search rule steps ∷ ReadAward empty_row ∷ []
 
--- The search of the two-package round takes so many steps under a rule; before the last of them so many choices are settled.
+-- The search of the two-package round takes so many steps under a rule; before the last, so many choices are settled.
 pub record Takes (rule : Answers) (steps settled : ℕ) : Type 0 where
   -- a step fewer leaves the round closed, with no award to read
   pub not_before : answers (two_packages_searched rule (steps - 1))
@@ -31,7 +31,7 @@ pub record Takes (rule : Answers) (steps settled : ℕ) : Type 0 where
       ∷ Awarded (Ok (record { choice = 1; surplus = pos 30 })) (row_of (10 ∷ []))
       ∷ []
 
--- the price of a package in the round's own stack, with a preference of 10,100, an expectation of 10,000, and -3 in zone 1
+-- a package's price in the round's own stack, with a preference of 10,100, an expectation of 10,000, and -3 in zone 1
 abbrev pub own_price : Package → Result ℤ Fault
 own_price = stack_price 10100 10000 (negsuc 2 ∷ replicate 15 (pos 0))
 
@@ -133,7 +133,9 @@ pub record TwelveRounds : Type 0 where
   pub own_price_above_zero : own_price (in_dollars (ten_for 100)) ≡ Ok (pos 71)
   -- round 11, a withdrawal outlives an older sheet
   pub older_sheet : Leaves (withdrawn_then two_packages_sheet) (done ∷ done ∷ done ∷ [])
-      (open_with (Open (ten_for 20) ∷ Withdrawn (ten_for 20) ∷ replicate 38 Vacant) (Open (band 4 10 5) ∷ replicate 63 Vacant))
+      (open_with
+      (Open (ten_for 20) ∷ Withdrawn (ten_for 20) ∷ replicate 38 Vacant)
+      (Open (band 4 10 5) ∷ replicate 63 Vacant))
   -- round 12, a clash: the sheet has package 2 for another price
   pub another_price_clashes : Leaves (withdrawn_then (sheet_with_second_for 21))
       (done ∷ done ∷ Done (Err (record { code = Clash; tag = 1; number = 2; field = 0; byte = 36; depth = 0 })) ∷ [])

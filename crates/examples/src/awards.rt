@@ -46,8 +46,8 @@ fn export_within_209999(rt: HostRuntime) -> Result<(), Fail> {
     check_award(&rt, requests, 16, 14, 103_000_000, &sales)
 }
 
-// The four-package round with the third dated so, and its power or certificates limited to a percentage; of two percentages the
-// least binds.
+// The four-package round with the third dated so, and its power or certificates limited to a percentage; of two percentages
+// the least binds.
 fn check_dated<R: Abort + AllocGlobal>(
     rt: &R,
     date: u8,
@@ -64,7 +64,7 @@ fn check_dated<R: Abort + AllocGlobal>(
     check_award(rt, requests, 16, choice, surplus, sales)
 }
 
-// Packages 1, 3 and 4 sell 80 MW and 240,000 certificates: the third's 20 MW are 25 per cent, its 90,000 certificates 37.5.
+// Packages 1, 3 and 4 sell 80 MW and 240,000 certificates. The third's 20 MW are 25 per cent, its 90,000 certificates 37.5.
 #[test]
 fn percentages_kept(rt: HostRuntime) -> Result<(), Fail> {
     let sales = [50, 30, 150_000, 90_000, 150_000, 90_000];
@@ -83,7 +83,7 @@ fn percentages_broken(rt: HostRuntime) -> Result<(), Fail> {
     check_dated(&rt, 2, 4, 37, 11, 87_500_000, &without)
 }
 
-// A percentage of power is of one power zone: package 1 is all that zone 2 sells, and a quarter of what zones 2 and 3 sell.
+// A percentage of power is of one zone: package 1 is all that zone 2 sells, and a quarter of what zones 2 and 3 sell.
 #[test]
 fn power_zones_apart(rt: HostRuntime) -> Result<(), Fail> {
     let packages = [
@@ -102,7 +102,7 @@ fn power_zones_apart(rt: HostRuntime) -> Result<(), Fail> {
     check_award(&rt, requests, 4, 2, 150, &[0, 30])
 }
 
-// Package 1 is a MW too much for interconnection zone 2, package 3 a MWh for export zone 3; zone 1 has room for the others.
+// Package 1 is a MW too much for interconnection zone 2, package 3 a MWh for export zone 3; zone 1 has room for the rest.
 #[test]
 fn zones_of_limits_apart(rt: HostRuntime) -> Result<(), Fail> {
     let mut packages = four_packages().map(unqualified);

@@ -220,8 +220,8 @@ pub fn check_answers<R: Abort + AllocGlobal, P: PriceRule + Drop, B: BoundingRul
     Ok(())
 }
 
-// The same of one that reads its award last: the row then has these sales from band 1 on, 0 up to place 64, and then what it
-// was lent with.
+// The same of one that reads its award last: the row then has these sales from band 1 on, 0 up to place 64, and then what
+// it was lent with.
 pub fn check_sold<R: Abort + AllocGlobal, P: PriceRule + Drop, B: BoundingRule + Drop>(
     rt: &R,
     requests: Vec<Request<P, B>>,
@@ -250,8 +250,8 @@ fn check_row(rt: &impl Abort, run: &Run, sales: &[u64]) -> Result<(), Fail> {
     Ok(())
 }
 
-// A round that is asked this, closed as filed and searched to its end under limits and all-in joined comes to so many choices,
-// the choice that is awarded, its surplus in pesos, and what the bands are sold.
+// A round that is asked this, closed as filed and searched to its end under limits and all-in joined comes to so many
+// choices, the choice that is awarded, its surplus in pesos, and what the bands are sold.
 pub fn check_award<R: Abort + AllocGlobal>(
     rt: &R,
     mut requests: Vec<UsualRequest>,

@@ -11,7 +11,7 @@ use pricing::place::Place;
 use std::process::Abort;
 use std::test::*;
 
-// The offers of the four-package round, all packages with this mark and a nameplate equal to their power, the third with this date.
+// The four-package round, all packages with this mark and a nameplate equal to their power, the third with this date.
 fn offered(unqualified: u8, date: u8) -> Result<Offers, Refusal> {
     let mut offers = Offers::vacant();
     for (number, package) in (1..=4).zip(four_packages()) {

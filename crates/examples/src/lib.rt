@@ -37,7 +37,8 @@ pub fn twelve_rounds()
     ensures { TwelveRounds }
 {}
 
-// The round's own stack of price rules means what the tenth of them says it does, whatever numbers its rules hold.
+// Currency on place on filed means the price of the round's own stack, by the numbers that its rules hold. So the tenth
+// worked round is about these rules.
 pub fn stack_means(stack: &Currency<Place<Filed>>)
     ensures { (p : Package) → ⟦<Currency<Place<Filed>> as PriceRule>⟧.meaning stack.now p
         ≡ stack_price stack.now.rates.preference stack.now.rates.expectation stack.now.below.numbers.numbers p }

@@ -92,8 +92,8 @@ fn not_taken_while_awarded(rt: HostRuntime) -> Result<(), Fail> {
     check_sold(&rt, requests, &last, &[10])
 }
 
-// With its package withdrawn a round has one choice. A count of steps out of range is refused even so; one in range makes no
-// step.
+// With its package withdrawn a round has one choice. A count of steps out of range is refused even so; one in range makes
+// no step.
 #[test]
 fn nothing_open(rt: HostRuntime) -> Result<(), Fail> {
     let heap = rt.alloc();
@@ -145,8 +145,8 @@ fn shorter_row(rt: HostRuntime) -> Result<(), Fail> {
     check_row_of(&rt, 63, Told::Refused(no_room), &[7; 63])
 }
 
-// Asks for the sheet of the two-package round in a buffer that is two bytes longer, and in one that is a byte too short. Both
-// hold a 7 at every place.
+// Asks for the sheet of the two-package round in a buffer that is two bytes longer, and in one that is a byte too short.
+// Both hold a 7 at every place.
 fn ask_for_sheets(requests: &mut Vec<UsualRequest>, heap: Global) -> Result<(), AllocError> {
     for places in [88, 85] {
         let buffer = vec![in heap; 7u8; places]?;
@@ -199,7 +199,7 @@ fn sheet_in_each_state(rt: HostRuntime) -> Result<(), Fail> {
     Ok(())
 }
 
-// The four-package round is reopened while it is searched and again when it is awarded, and then package 3 is withdrawn.
+// The four-package round is reopened while it is searched and when it is awarded, and then package 3 is withdrawn.
 #[test]
 fn reopened(rt: HostRuntime) -> Result<(), Fail> {
     let heap = rt.alloc();
@@ -261,7 +261,7 @@ fn price_fault(rt: HostRuntime) -> Result<(), Fail> {
     check_answers(&rt, requests, &last)
 }
 
-// Package 1 of the two-package round is withdrawn by a request, and then stands open on an older sheet: package 2 is awarded.
+// Package 1 of the two-package round is withdrawn, and then stands open on an older sheet: package 2 is awarded.
 fn check_package_2<R: Abort + AllocGlobal>(rt: &R, withdraw: UsualRequest) -> Result<(), Fail> {
     let heap = rt.alloc();
     let catch_up = two_packages(heap)?;

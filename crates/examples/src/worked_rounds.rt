@@ -152,8 +152,8 @@ fn power_before_24_per_cent(rt: HostRuntime) -> Result<(), Fail> {
     check_award(&rt, requests, 16, 15, 118_500_000, &sales)
 }
 
-// What a dollar package of 10 MWh at this filed price is worth to a band for them at 8 pesos, priced in the round's own stack
-// with a preference of 10,100, an expectation of 10,000, and -3 in zone 1.
+// What a dollar package of 10 MWh at this filed price is worth to a band for them at 8 pesos, priced in the round's own
+// stack with a preference of 10,100, an expectation of 10,000, and -3 in zone 1.
 fn check_worth<R: Abort + AllocGlobal>(rt: &R, price: u64, surplus: i64) -> Result<(), Fail> {
     let offer = Offer::Package(Package {
         dollar: 1,
@@ -181,8 +181,8 @@ fn own_price_above_zero(rt: HostRuntime) -> Result<(), Fail> {
     check_worth(&rt, 100, 9)
 }
 
-// Package 2 of the two-package round is filed and withdrawn, and then the sheet of that round comes, with package 2 for this
-// price: what it is answered, and what stands then at package 1 and at band 1. Package 2 stays withdrawn.
+// Package 2 of the two-package round is filed and withdrawn, and then the sheet of that round comes, with package 2 for
+// this price: what it is answered, and what stands then at package 1 and at band 1. Package 2 stays withdrawn.
 fn check_sheet<R: Abort + AllocGlobal>(
     rt: &R,
     price: u8,
