@@ -23,7 +23,7 @@ filed_docket all = let o : Outcome View = closing nothing_open all filed_price i
 abbrev pub sheet_docket : List ℕ → Result View Refusal
 sheet_docket sheet = and_then (catch_up vacant sheet) filed_docket
 
--- A text tells the award of a docket.
+-- A text tells the award of a docket, the best of its choices.
 pub record TellsAward (docket : View) (text : List ℕ) : Type 0 where
   pub choice : ℕ
   -- it is lawful, no lawful choice is worth more, and it is the earliest of those worth as much; so there is one such choice
@@ -39,7 +39,8 @@ AnswersDocket (Err why) refused text = (refused ≡ true) × (text ≡ refused_t
 abbrev pub AnswersSheet : List ℕ → Bool → List ℕ → Type 0
 AnswersSheet sheet = AnswersDocket (sheet_docket sheet)
 
--- A sheet is read and answered: of a reader the bytes that it had left, of a writer those that it held before and after, where they are known.
+-- A sheet is read and answered. Of the reader it takes the bytes that were left, of the writer those that it held before and after,
+-- where they are known.
 pub record Answered (left before after : Option (List ℕ)) (refused : Bool) : Type 0 where
   -- the sheet is all that was left, up to 4,096 bytes
   pub sheet : List ℕ

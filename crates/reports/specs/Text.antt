@@ -24,20 +24,20 @@ abbrev pub band_line : Sold → List ℕ
 band_line s = codes "band " ++ (decimal s.band ++ (codes " sold " ++ (decimal s.quantity ++ line_end)))
 
 -- open packages and choices, taken packages, open bands with what they are sold, and the surplus
-abbrev pub text_with : ℕ → ℕ → List ℕ → List Sold → ℤ → List ℕ
-text_with open_packages all_choices packages bands worth =
+abbrev pub text_of : ℕ → ℕ → List ℕ → List Sold → ℤ → List ℕ
+text_of open_packages all_choices packages bands worth =
     (codes "open " ++ (decimal open_packages ++ (codes " choices " ++ (decimal all_choices ++ line_end))))
     ++ (lines_of package_line packages
     ++ (lines_of band_line bands
     ++ (codes "surplus " ++ (signed_decimal worth ++ line_end))))
 
 abbrev pub report_text : Report → List ℕ
-report_text r = text_with r.open r.choices (vec_items r.packages) (vec_items r.bands) r.surplus
+report_text r = text_of r.open r.choices (vec_items r.packages) (vec_items r.bands) r.surplus
 
 -- the text of a choice of a docket, with the sales that fill the bands: all by rising number
 abbrev pub award_text : View → ℕ → List ℕ
 award_text v choice =
-    text_with (length v.packages) (choices v) (map (λ p. p.number) (taken v.packages choice))
+    text_of (length v.packages) (choices v) (map (λ p. p.number) (taken v.packages choice))
     (sold_bands v.bands (filled_sales v choice)) (surplus v choice (filled_sales v choice))
 
 -- a refused sheet: the code, and the byte where the field at fault starts

@@ -1,7 +1,6 @@
 // A sheet's whole way: its bytes are read, its round is cleared, and the text of its award or its refusal is written.
 ghost use Rattle.std.specs.Prelude.{◌≡◌, ◌≤◌, IfOk, IfSome, MatchResult, OnOk, take, vec_len};
 ghost use Rattle.std.specs.Io.KnownBytes.{Appends};
-ghost use Rattle.rounds.specs.Model.{beginning};
 ghost use Rattle.rounds.specs.Views.{of_open};
 ghost use Rattle.reports.specs.Answering.{Answered};
 ghost use Rattle.reports.specs.Cleared.{Cleared, NotCleared};
