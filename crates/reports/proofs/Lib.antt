@@ -1,1 +1,5 @@
-pub mod Printed
+mod Printed
+mod Calls
+mod SheetDockets
+mod Tellings
+mod OneAnswer

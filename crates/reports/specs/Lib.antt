@@ -1,2 +1,4 @@
 pub mod Reports
 pub mod Text
+pub mod Cleared
+pub mod Answering

@@ -1,5 +1,5 @@
 -- What is reported of an award. Assumes nothing.
-use Rattle.std.specs.Prelude.{◌≡◌, ℕ, ◌-◌, List, map, length, vec_items, slice_index_or}
+use Rattle.std.specs.Prelude.{◌≡◌, ℕ, ◌-◌, List, [], ◌∷◌, map, length, vec_items, slice_index_or}
 use Rattle.clearing.specs.declared.dockets.OpenBand.{OpenBand}
 use Rattle.clearing.specs.Choices.{taken}
 use Rattle.clearing.specs.Lawful.{View, choices}
@@ -7,6 +7,12 @@ use Rattle.search.specs.Search.{Standing}
 use Rattle.rounds.specs.Model.{State, IsOpen, IsClosed, IsAwarded, sold_row}
 use Rattle.reports.specs.declared.report.Sold.{Sold}
 use Rattle.reports.specs.declared.report.Report.{Report}
+
+-- each band's number with its sale, one beside the other
+abbrev pub sold_bands : List OpenBand → List ℕ → List Sold
+sold_bands [] sales = []
+sold_bands (b ∷ bs) [] = []
+sold_bands (b ∷ bs) (s ∷ ss) = record { band = b.number; quantity = s } ∷ sold_bands bs ss
 
 -- what a band is sold, with its number: number n stands at place n - 1 of a row of sales
 abbrev pub sold_line : List ℕ → OpenBand → Sold

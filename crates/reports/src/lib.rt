@@ -1,4 +1,4 @@
-// What is told of a round in words.
+// What is told of a round in words, and a sheet's whole way from its bytes to that text.
 #![tactic(auto)]
 
 // Of an awarded round, and of a sheet that is refused:
@@ -6,3 +6,7 @@
 //   Report::of     the report of an awarded round
 //   RefusedSheet   a refusal, whose text is what is printed
 pub mod report;
+
+// From bytes to text:
+//   answer_sheet   reads a sheet, clears its round, and writes the text of its award or its refusal
+pub mod answering;

@@ -5,8 +5,8 @@ use Rattle.pricing.specs.Prices.{filed_price}
 use Rattle.bounds.specs.Rules.{limits_and_all_in}
 use Rattle.rounds.specs.Model.{CatchUp, Close, Done, Model, step}
 use Rattle.rounds.specs.Views.{of_open, of_closed, of_awarded, gave, gave_closing, Finishes}
-use Rattle.award.proofs.Calls.{both_answered, both_left}
-use Rattle.award.proofs.clear.Goals as goal
+use Rattle.reports.proofs.Calls.{both_answered, both_left}
+use Rattle.reports.proofs.answering.clear.Goals as goal
 
 pub returns-in-Ok : goal.returns-in-Ok
 returns-in-Ok g c =

@@ -13,7 +13,7 @@ abbrev pub sheet_calls : List ℕ → List Call
 sheet_calls sheet = CatchUp sheet ∷ Close filed_price ∷ []
 
 -- the first refusal among answers
-abbrev first_of : Option Refusal → Option Refusal → Option Refusal
+abbrev pub first_of : Option Refusal → Option Refusal → Option Refusal
 first_of None later = later
 first_of (Some e) later = Some e
 

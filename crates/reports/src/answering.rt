@@ -1,0 +1,171 @@
+// A sheet's whole way: its bytes are read, its round is cleared, and the text of its award or its refusal is written.
+ghost use Rattle.std.specs.Prelude.{◌≡◌, ◌≤◌, IfOk, IfSome, MatchResult, OnOk, take, vec_len};
+ghost use Rattle.std.specs.Io.KnownBytes.{Appends};
+ghost use Rattle.rounds.specs.Views.{of_open};
+ghost use Rattle.reports.specs.Answering.{Answered};
+ghost use Rattle.reports.specs.Cleared.{Cleared, NotCleared};
+
+use crate::report::{RefusedSheet, Report};
+use bounds::all_in::AllIn;
+use bounds::joined::Joined;
+use bounds::limits::Limits;
+use offers::refusals::Refusal;
+use pricing::filed::Filed;
+use rounds::awarded_round::AwardedRound;
+use rounds::finishing::{Progress, finish};
+use rounds::open_round::OpenRound;
+use std::alloc::Global;
+use std::fmt::Display;
+use std::io;
+use std::io::{Read, Write};
+
+// The most bytes of a sheet that are read.
+const MOST: usize = 4096;
+
+// Reads a sheet of at most 4,096 bytes, clears its round, and writes the text of its award or its refusal. Answers whether the
+// sheet was refused. Nothing is written before the whole text is made.
+pub fn answer_sheet<R: Read + Drop, W: Write, P: Progress>(
+    heap: Global,
+    input: R,
+    output: &mut W,
+    progress: &mut P,
+) -> io::Result<bool>
+    ensures { IfOk result (Answered (R.remaining input) (W.contents output.old) (W.contents output.new)) }
+{
+    let sheet = read_sheet(heap, input)?;
+    let round = OpenRound::new(heap)?;
+    match clear(round, &sheet, progress) {
+        Ok(awarded) => {
+            let report = Report::of(heap, &awarded)?;
+            write_text(heap, &report, output)?;
+            Ok(false)
+        }
+        Err(refusal) => {
+            write_text(heap, &RefusedSheet(refusal), output)?;
+            Ok(true)
+        }
+    }
+}
+
+// The bytes that come, up to MOST; the rest is left unread.
+fn read_sheet<R: Read + Drop>(heap: Global, input: R) -> io::Result<Vec<u8>>
+    ensures few { IfOk result (λ sheet. vec_len sheet ≤ 4096) }
+    ensures bytes { IfOk result (λ sheet. IfSome (R.remaining input) (λ all. sheet.items ≡ take 4096 all)) }
+{
+    // room for one more, so that the end of a full sheet is found with no more memory
+    let mut sheet = Vec::with_capacity(heap, MOST + 1)?;
+    input.take(MOST as u64).read_to_end(&mut sheet)?;
+    // `take` promises its limit only where the bytes to come are known
+    sheet.truncate(MOST);
+    Ok(sheet)
+}
+
+// The award of a sheet: caught up with, closed with the prices as filed, and searched to the end.
+fn clear<P: Progress>(
+    mut round: OpenRound,
+    sheet: &[u8],
+    progress: &mut P,
+) -> Result<AwardedRound, Refusal>
+    ensures { MatchResult result (Cleared (of_open round) sheet.now) (NotCleared (of_open round) sheet.now) }
+{
+    round.catch_up(sheet)?;
+    match round.close(&mut Filed) {
+        Ok(closed) => Ok(finish(closed, &mut Joined(Limits, AllIn), progress)),
+        Err((_, refusal)) => Err(refusal),
+    }
+}
+
+// Writes a text at once, when all of it is made.
+fn write_text<D: Display, W: Write>(heap: Global, told: &D, output: &mut W) -> io::Result<()>
+    ensures { OnOk result (IfSome (D.output told.now) (Appends (W.contents output.old) (W.contents output.new))) }
+{
+    let text = told.to_string(heap)?;
+    output.write_all(text.as_bytes())?;
+    output.flush()
+}
+
+#[cfg(test)]
+mod tests {
+    use super::*;
+    use std::io::ErrorKind;
+    use std::test::*;
+
+    // Wants to know nothing.
+    #[derive(Drop)]
+    struct Silent;
+
+    impl Progress for Silent {
+        fn note(&mut self, _settled: u64, _choices: u64, _surplus: i64) {}
+    }
+
+    // Gives one byte and then fails.
+    #[derive(Drop)]
+    struct CutOff {
+        is_cut: bool,
+    }
+
+    impl Read for CutOff {
+        fn read(&mut self, buf: &mut [u8]) -> io::Result<usize> {
+            if self.is_cut || buf.is_empty() {
+                return Err(io::Error::from(ErrorKind::TimedOut));
+            }
+            self.is_cut = true;
+            buf[0] = 1;
+            Ok(1)
+        }
+    }
+
+    // Takes so many bytes more and then fails.
+    #[derive(Drop)]
+    struct Full {
+        room: usize,
+    }
+
+    impl Write for Full {
+        fn write(&mut self, buf: &[u8]) -> io::Result<usize> {
+            if self.room == 0 {
+                return Err(io::Error::from(ErrorKind::BrokenPipe));
+            }
+            let taken = buf.len().min(self.room);
+            self.room -= taken;
+            Ok(taken)
+        }
+
+        fn flush(&mut self) -> io::Result<()> {
+            Ok(())
+        }
+    }
+
+    #[test]
+    fn answers_from_memory(rt: HostRuntime) -> Result<(), Fail> {
+        let sheets: [(&[u8], bool, &str); 2] = [
+            (b"", false, "open 0 choices 1\nsurplus 0\n"),
+            (b"\x01", true, "refused 6 at 0\n"),
+        ];
+        for (sheet, refused, text) in sheets {
+            let mut output = Vec::new(rt.alloc());
+            assert_eq!(rt;
+                answer_sheet(rt.alloc(), sheet, &mut output, &mut Silent)?,
+                refused
+            );
+            assert_eq!(rt; output.as_slice(), text.as_bytes());
+        }
+        Ok(())
+    }
+
+    #[test]
+    fn failures_come_out(rt: HostRuntime) {
+        let mut output = Vec::new(rt.alloc());
+        let reader = CutOff { is_cut: false };
+        match answer_sheet(rt.alloc(), reader, &mut output, &mut Silent) {
+            Ok(_) => assert!(rt; false, "answered half a sheet"),
+            Err(e) => assert!(rt; e.kind() == ErrorKind::TimedOut),
+        }
+        assert!(rt; output.is_empty());
+        let sheet: &[u8] = b"";
+        match answer_sheet(rt.alloc(), sheet, &mut Full { room: 20 }, &mut Silent) {
+            Ok(_) => assert!(rt; false, "wrote past the end"),
+            Err(e) => assert!(rt; e.kind() == ErrorKind::BrokenPipe),
+        }
+    }
+}
