@@ -1,0 +1,13 @@
+pub mod Parting
+pub mod Digits
+pub mod Zones
+pub mod Journaling
+pub mod Meanings
+pub mod HexDigits
+pub mod Plain
+pub mod Decimals
+pub mod RecordTexts
+pub mod RuleTexts
+pub mod ByteTexts
+pub mod ReadsBack
+pub mod SheetsShown

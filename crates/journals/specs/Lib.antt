@@ -1,0 +1,16 @@
+pub mod Wrongs
+pub mod Words
+pub mod Numbers
+pub mod Names
+pub mod Readers
+pub mod Records
+pub mod Stacks
+pub mod Chains
+pub mod Bytes
+pub mod Lines
+pub mod Journals
+pub mod Mistakes
+pub mod Calls
+pub mod Answers
+pub mod Texts
+pub mod Laws

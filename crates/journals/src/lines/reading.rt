@@ -1,0 +1,61 @@
+// A line, read from its text.
+ghost use Rattle.std.specs.Option.{option_map};
+ghost use Rattle.journals.specs.Lines.{said, said_at, said_by, said_in};
+ghost use Rattle.journals.specs.Readers.{left, Reads};
+
+use crate::bytes::bytes;
+use crate::chains::chain;
+use crate::lines::Line;
+use crate::names::{Verb, call_verb, next_kind};
+use crate::records::offer;
+use crate::stacks::stack;
+use crate::words::Words;
+use crate::wrongs::ReadError;
+use std::alloc::Global;
+
+// The row of an award, where its length is not said.
+const ROW: u32 = 64;
+
+// What the words after a line's first say.
+#[tactic(auto, unfolding(crate::specs::Lines::said_at))]
+fn rest(heap: Global, verb: Verb, words: &mut Words) -> Result<Line, ReadError>
+    ensures { Reads (λ line. (said line, left words.new)) result (said_at verb (left words.old)) }
+{
+    Ok(match verb {
+        Verb::File => {
+            let kind = next_kind(words)?;
+            let number = words.next_u8()?;
+            Line::File(number, offer(kind, words)?)
+        }
+        Verb::Withdraw => {
+            let kind = next_kind(words)?;
+            Line::Withdraw(kind, words.next_u8()?)
+        }
+        Verb::CatchUp => Line::CatchUp(bytes(heap, words)?),
+        Verb::Close => Line::Close(stack(words)?),
+        Verb::Search => {
+            let rules = chain(heap, words)?;
+            Line::Search(rules, words.next_u32()?)
+        }
+        Verb::Reopen => Line::Reopen,
+        Verb::Award => Line::Award(words.optional_u32()?.unwrap_or(ROW)),
+        Verb::Sheet => Line::Sheet(words.optional_u32()?),
+    })
+}
+
+// What a line says; none for one that is passed over.
+#[tactic(auto, unfolding(crate::specs::Lines::said_by))]
+pub fn read_line(heap: Global, line: &[u8]) -> Result<Option<Line>, ReadError>
+    ensures { Reads (option_map said) result (said_in line.now) }
+{
+    if let [b'#', ..] = line {
+        return Ok(None);
+    }
+    let mut words = Words::of(line);
+    let Some(first) = words.next() else {
+        return Ok(None);
+    };
+    let line = rest(heap, call_verb(first)?, &mut words)?;
+    words.end()?;
+    Ok(Some(line))
+}
