@@ -280,7 +280,7 @@ fn a_journal_run(rt: HostRuntime) -> Result<(), Fail> {
         return Err(Fail::new("no journal"));
     };
     let plan = planned(heap, lines)?;
-    let run = replay(heap, plan.requests)?;
+    let run = replay(heap, plan.requests, &mut ())?;
     let mut told = String::new(heap);
     for (moment, shown) in run.moments.iter().zip(&plan.shown) {
         let line = AnswerLine {
