@@ -11,3 +11,4 @@ pub mod RuleTexts
 pub mod ByteTexts
 pub mod ReadsBack
 pub mod SheetsShown
+pub mod Transcripts

@@ -14,3 +14,4 @@ pub mod Calls
 pub mod Answers
 pub mod Texts
 pub mod Laws
+pub mod Running

@@ -1,6 +1,5 @@
 // A sheet's whole way: its bytes are read, its round is cleared, and the text of its award or its refusal is written.
-ghost use Rattle.std.specs.Prelude.{◌≡◌, ◌≤◌, IfOk, IfSome, MatchResult, OnOk, take, vec_len};
-ghost use Rattle.std.specs.Io.KnownBytes.{Appends};
+ghost use Rattle.std.specs.Prelude.{◌≡◌, ◌≤◌, IfOk, IfSome, MatchResult, take, vec_len};
 ghost use Rattle.rounds.specs.Views.{of_open};
 ghost use Rattle.reports.specs.Answering.{Answered};
 ghost use Rattle.reports.specs.Cleared.{Cleared, NotCleared};
@@ -11,11 +10,11 @@ use bounds::joined::Joined;
 use bounds::limits::Limits;
 use offers::refusals::Refusal;
 use pricing::filed::Filed;
+use printing::texts::write_text;
 use rounds::awarded_round::AwardedRound;
 use rounds::finishing::{Progress, finish};
 use rounds::open_round::OpenRound;
 use std::alloc::Global;
-use std::fmt::Display;
 use std::io;
 use std::io::{Read, Write};
 
@@ -73,15 +72,6 @@ fn clear<P: Progress>(
         Ok(closed) => Ok(finish(closed, &mut Joined(Limits, AllIn), progress)),
         Err((_, refusal)) => Err(refusal),
     }
-}
-
-// Writes a text at once, when all of it is made.
-fn write_text<D: Display, W: Write>(heap: Global, told: &D, output: &mut W) -> io::Result<()>
-    ensures { OnOk result (IfSome (D.output told.now) (Appends (W.contents output.old) (W.contents output.new))) }
-{
-    let text = told.to_string(heap)?;
-    output.write_all(text.as_bytes())?;
-    output.flush()
 }
 
 #[cfg(test)]
