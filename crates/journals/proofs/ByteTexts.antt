@@ -1,10 +1,10 @@
 -- What is written of bytes is read as those bytes.
-use Rattle.std.proofs.Common.{◌≡◌, ℕ, suc, ◌+◌, ◌*◌, ◌/◌, ◌%◌, ◌<◌, Bool, true, ◌&&◌, ltb, List, [], ◌∷◌, get_or, Ok, refl, ap, ◌∙◌, arith}
+use Rattle.std.proofs.Common.{◌≡◌, ℕ, suc, ◌/◌, ◌%◌, ◌<◌, true, List, [], ◌∷◌, get_or, Ok, refl, arith}
 use Rattle.std.specs.List.{list_all}
 use Rattle.std.proofs.lemmas.Bool.{agree_below_at, and_from}
 use Rattle.hex.specs.Hex.{IsBytes, encode_with, encode_lower, lower_digits}
 use Rattle.hex.proofs.HexLemmas.{decode_of-encode_lower}
-use Rattle.journals.specs.Bytes.{decoded, bytes_at}
+use Rattle.journals.specs.Bytes.{bytes_at}
 use Rattle.journals.specs.Texts.{bytes_words}
 use Rattle.journals.specs.Words.{is_word}
 use Rattle.journals.proofs.Decimals.{above_blank}

@@ -1,11 +1,10 @@
 -- Words joined by a separator are parted at it into the same words.
-use Rattle.std.proofs.Common.{◌≡◌, ℕ, Bool, true, false, ◌&&◌, List, [], ◌∷◌, ◌++◌, refl, sym, ap, ◌∙◌, ltb, arith}
-use Rattle.std.specs.List.{filter, flat_map, list_all, slice_split, onto_first, AllByRecursion}
-use Rattle.std.proofs.lemmas.Bool.{and_parts, cond-true}
+use Rattle.std.proofs.Common.{◌≡◌, ℕ, Bool, true, false, List, [], ◌∷◌, ◌++◌, refl, ap, ◌∙◌}
+use Rattle.std.specs.List.{flat_map, list_all, slice_split, onto_first, AllByRecursion}
+use Rattle.std.proofs.lemmas.Bool.{and_parts}
 use Rattle.std.proofs.lemmas.List.{append-nil}
 use Rattle.std.proofs.lemmas.List.Splits.{slice_split-cons_yes, slice_split-cons_no}
-use Rattle.journals.specs.Texts.{behind, spaced}
-use Rattle.journals.specs.Words.{words_in, is_blank, is_word}
+use Rattle.journals.specs.Words.{is_word}
 
 -- bytes that pass a test are no separators
 abbrev pub Apart : (ℕ → Bool) → (ℕ → Bool) → Type 0

@@ -1,18 +1,18 @@
 -- What is written for a line is read as that line, and so is a journal.
-use Rattle.std.proofs.Common.{◌≡◌, ℕ, zero, suc, ◌+◌, ◌-◌, ◌^◌, ◌<◌, ◌≤◌, Bool, true, false, not, ◌&&◌, cond, eqb, ltb, leb, List, [], ◌∷◌, ◌++◌, length, map, take, get_or, Some, None, Option, Ok, Err, refl, sym, ap, ◌∙◌, append_assoc, arith}
+use Rattle.std.proofs.Common.{◌≡◌, ℕ, zero, suc, ◌+◌, ◌-◌, ◌^◌, ◌<◌, Bool, true, false, eqb, leb, List, [], ◌∷◌, ◌++◌, length, map, take, get_or, Some, None, Ok, refl, ap, ◌∙◌, append_assoc, arith}
 use Rattle.std.specs.Fmt.{decimal}
-use Rattle.std.specs.List.{filter, flat_map, list_all, slice_split, AllByRecursion}
+use Rattle.std.specs.List.{filter, list_all, AllByRecursion}
 use Rattle.std.specs.Str.Lines.{strip_carriage_return}
 use Rattle.std.proofs.lemmas.Bool.{and_parts, and_from, cond-true, cond-false, ltb-true, leb-true, le-leb, ne_eqb, or_from}
 use Rattle.std.proofs.lemmas.List.Folds.{list_all-append}
 use Rattle.offers.specs.declared.memory.Kind.{Kind}
 use Rattle.offers.specs.declared.memory.Kind.TheVariants as kind
 use Rattle.journals.specs.declared.wrongs.Wrong.TheVariants.{UnknownKind}
-use Rattle.journals.specs.Journals.{journal_from, journal_in}
+use Rattle.journals.specs.Journals.{journal_from}
 use Rattle.journals.specs.Laws.{LinesReadBack, JournalsReadBack}
-use Rattle.journals.specs.Lines.{Said, File, Withdraw, CatchUp, Close, Search, Reopen, Award, Sheet, said_at, said_by, said_in}
+use Rattle.journals.specs.Lines.{Said, File, Withdraw, CatchUp, Close, Search, Reopen, Award, Sheet, said_at, said_by}
 use Rattle.journals.specs.Names.{kinds}
-use Rattle.journals.specs.Readers.{name_at, number_at}
+use Rattle.journals.specs.Readers.{name_at}
 use Rattle.journals.specs.Texts.{behind, spaced, kind_word, kind_of, words_of, line_text, journal_text, Fits}
 use Rattle.journals.specs.Words.{words_in, lines_in, is_blank, is_word}
 use Rattle.journals.proofs.ByteTexts.{bytes_at-words, bytes-words}

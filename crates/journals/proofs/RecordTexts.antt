@@ -1,5 +1,5 @@
 -- What is written of a record is read as that record.
-use Rattle.std.proofs.Common.{◌≡◌, ℕ, ◌^◌, ◌<◌, ◌≤◌, Bool, true, ◌&&◌, leb, List, [], ◌∷◌, map, Ok, refl, ap, ◌∙◌, arith}
+use Rattle.std.proofs.Common.{◌≡◌, ℕ, ◌^◌, ◌<◌, ◌≤◌, Bool, true, leb, List, [], ◌∷◌, map, Ok, refl, arith}
 use Rattle.std.specs.List.{list_all}
 use Rattle.std.proofs.lemmas.Bool.{and_parts, leb-true}
 use Rattle.std.proofs.Math.Nat.{pow-le-pow_right}
@@ -8,7 +8,6 @@ use Rattle.offers.specs.Layouts.{Layout}
 use Rattle.offers.specs.Tables.{package_layout, band_layout, pair_layout, exclusion_layout, limit_layout}
 use Rattle.offers.specs.declared.memory.Offer.{Offer}
 use Rattle.offers.specs.declared.memory.Offer.TheVariants as offer
-use Rattle.journals.specs.Readers.{number_at}
 use Rattle.journals.specs.Records.{numbers_at, record_at, offer_at}
 use Rattle.journals.specs.Texts.{field_words, record_words, offer_words, kind_of, FieldsFit, OfferFits}
 use Rattle.journals.proofs.Decimals.{number_at-decimal, decimal-above, is_word-decimal, above_blank}

@@ -1,16 +1,15 @@
 -- What is written of price rules and bounding rules is read as those rules.
-use Rattle.std.proofs.Common.{◌≡◌, ℕ, zero, suc, ◌^◌, ◌<◌, ◌≤◌, Bool, true, false, not, ◌&&◌, cond, eqb, leb, List, [], ◌∷◌, ◌++◌, length, map, ℤ, Some, Ok, Err, refl, sym, ap, ◌∙◌, rules, arith}
-use Rattle.std.specs.Fmt.{decimal, signed_decimal}
+use Rattle.std.proofs.Common.{◌≡◌, ℕ, ◌≤◌, Bool, true, not, eqb, leb, List, [], ◌∷◌, ◌++◌, length, map, ℤ, Some, Ok, refl, sym, ap, ◌∙◌, rules, arith}
+use Rattle.std.specs.Fmt.{decimal}
 use Rattle.std.specs.List.{flat_map, list_all, slice_split}
-use Rattle.std.proofs.lemmas.Bool.{and_parts, and_from, cond-true, leb-true, not-true, false≢true}
+use Rattle.std.proofs.lemmas.Bool.{and_parts, and_from, leb-true, not-true, false≢true}
 use Rattle.std.proofs.lemmas.List.Folds.{list_all-append}
 use Rattle.offers.specs.Fields.{within}
 use Rattle.pricing.specs.Numbers.{zone_number, zone_numbers, currency_rates}
 use Rattle.bounds.specs.declared.names.Named.{Named}
 use Rattle.bounds.specs.declared.names.Named.TheVariants.{Ceiling, AllIn, OneByOne, Limits}
-use Rattle.journals.specs.declared.wrongs.Wrong.TheVariants.{UnknownRule, RuleNumberOutside}
-use Rattle.journals.specs.Chains.{Rules, rules_in, chain_in, chain_at}
-use Rattle.journals.specs.Names.{case_named, bounding_rules, stacks}
+use Rattle.journals.specs.Chains.{Rules, rules_in, chain_at}
+use Rattle.journals.specs.Names.{case_named, bounding_rules}
 use Rattle.journals.specs.Readers.{name_at}
 use Rattle.journals.specs.Stacks.{PlainStack, Filed, Place, Currency, signeds_at, zones_at, weighing_at, stack_at}
 use Rattle.journals.specs.Texts.{zone_words, stack_words, rule_word, rules_word, ZonesFit, StackFits}

@@ -1,6 +1,6 @@
 -- The lines that a loop over shown and moments has written are those of their transcript.
-use Rattle.std.proofs.Common.{ℕ, Iter, ◌≡◌, refl, sym, ap, subst, ◌∙◌, List, [], ◌∷◌, ◌++◌, map, zip, Some, None, Option, ◌⊎◌, inl, inr}
-use Rattle.std.proofs.lemmas.Slice.Zip.{Zip-more, either_empty_from_Zip}
+use Rattle.std.proofs.Common.{ℕ, Iter, ◌≡◌, refl, sym, ap, subst, ◌∙◌, List, [], ◌∷◌, ◌++◌, map, None, Option, ◌⊎◌, inl, inr}
+use Rattle.std.proofs.lemmas.Slice.Zip.{either_empty_from_Zip}
 use Rattle.std.proofs.lemmas.Iterator.{zips}
 use Rattle.std.proofs.lemmas.Fn.{fronts}
 use Rattle.std.specs.declared.iter.Zip.{Zip}
@@ -10,8 +10,7 @@ use Rattle.std.specs.Slice.Iter.{iter_rest}
 use Rattle.std.specs.Iterator.Adapters.{zip_first, zip_second}
 use Rattle.std.specs.List.{flat_map}
 use Rattle.rounds.specs.declared.replays.Moment.{Moment}
-use Rattle.rounds.specs.Replays.{moment_of, of_stage}
-use Rattle.rounds.specs.Requests.{answer_of}
+use Rattle.rounds.specs.Replays.{moment_of}
 use Rattle.journals.specs.declared.lines.Shown.{Shown}
 use Rattle.journals.specs.Running.{answer_line, transcript_of}
 

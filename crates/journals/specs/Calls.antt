@@ -1,5 +1,5 @@
 -- The calls that lines stand for, and what is shown of their buffers. Assumes nothing.
-use Rattle.std.specs.Prelude.{ℕ, ◌+◌, ◌*◌, List, map, replicate, Some, None, Option}
+use Rattle.std.specs.Prelude.{ℕ, ◌+◌, ◌*◌, map, replicate, Some, None, Option}
 use Rattle.pricing.specs.Prices.{filed_price, place_price, currency_price}
 use Rattle.clearing.specs.Closing.{Meaning}
 use Rattle.bounds.specs.Blocks.{Answers}

@@ -5,7 +5,6 @@ use Rattle.journals.specs.declared.names.Top.{Top}
 use Rattle.journals.specs.declared.names.Top.TheVariants as top
 use Rattle.journals.specs.declared.stacks.Stack.{Stack}
 use Rattle.journals.specs.declared.stacks.Stack.TheVariants as stack
-use Rattle.journals.specs.declared.stacks.Weighing.{Weighing}
 use Rattle.journals.specs.declared.wrongs.Wrong.TheVariants.{UnknownRule, RuleNumberOutside}
 use Rattle.journals.specs.Names.{stacks}
 use Rattle.journals.specs.Readers.{Reading, name_at, number_at, signed_at}

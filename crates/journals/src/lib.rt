@@ -1,10 +1,21 @@
 // The record of a round, one call a line: read into calls, run, and answered a line for each.
 #![tactic(auto)]
 
+mod bytes;
+mod chains;
+mod names;
+mod numbers;
+mod parts;
+mod records;
+#[cfg(test)]
+mod tests;
+mod words;
+
 // What a line says:
 //   Line           a call; its text is a line that reads back to it
 //   read_line      what one line says
 //   Stack          the price rules that a line names
+//   Wrong          why a line is no call
 pub mod lines;
 pub mod stacks;
 pub mod wrongs;
@@ -28,13 +39,3 @@ pub mod running;
 // What writing and reading owe each other:
 //   lines_read_back, journals_read_back, sheets_shown
 pub mod laws;
-
-mod bytes;
-mod chains;
-mod names;
-mod numbers;
-mod parts;
-mod records;
-#[cfg(test)]
-mod tests;
-mod words;

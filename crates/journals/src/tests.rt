@@ -351,12 +351,7 @@ impl Write for Full {
 #[test]
 fn failures_come_out(rt: HostRuntime) {
     let mut output = Vec::new(rt.alloc());
-    match run_journal(
-        rt.alloc(),
-        CutOff { is_cut: false },
-        &mut output,
-        &mut (),
-    ) {
+    match run_journal(rt.alloc(), CutOff { is_cut: false }, &mut output, &mut ()) {
         Ok(_) => assert!(rt; false, "answered half a journal"),
         Err(e) => assert!(rt; e.kind() == ErrorKind::TimedOut),
     }

@@ -1,4 +1,4 @@
-use Rattle.std.proofs.Common.{rules, ◌≡◌, ap, subst, ◌∙◌, sym, map, vec_items}
+use Rattle.std.proofs.Common.{rules, ◌≡◌, ap, subst, ◌∙◌, map, vec_items}
 use Rattle.std.specs.Fmt.{HasWritten}
 use Rattle.std.specs.Iterator.Adapters.{zip_first, zip_second}
 use Rattle.std.specs.Slice.Iter.{iter_rest}
