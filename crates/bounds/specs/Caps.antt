@@ -1,24 +1,25 @@
 -- Why each rule is sound, of a docket in range: its caps are no less than any lawful surplus, and none is lawful where it says none.
-use Rattle.std.specs.Prelude.{◌≡◌, ℕ, true, ◌&&◌, List, ℤ, ◌≤ℤ◌, Some, None, Option}
-use Rattle.std.proofs.Common.{le_trans, arith}
+use Rattle.std.specs.Prelude.{◌≡◌, ℕ, ◌*◌, ◌≤◌, true, ◌&&◌, List, ℤ, ◌≤ℤ◌, Some, None, Option, ◌==◌}
+use Rattle.std.proofs.Common.{le_trans, mul-le-mul_left, arith}
 use Rattle.std.proofs.ByRecursion.{All-weaker}
 use Rattle.std.proofs.lemmas.Int.{ints, clamps}
 use Rattle.std.proofs.lemmas.Bool.{and_from, both_ways, cond_both}
-use Rattle.clearing.specs.Choices.{taken}
-use Rattle.clearing.specs.Judging.{pairs_met, groups_apart, zones_within}
-use Rattle.clearing.specs.Lawful.{View, Lawful, surplus}
+use Rattle.clearing.specs.declared.dockets.PricedPackage.{PricedPackage}
+use Rattle.clearing.specs.Choices.{taken, where_so, supplied, supply, dated}
+use Rattle.clearing.specs.Judging.{pairs_met, groups_apart, zones_within, dates_within}
+use Rattle.clearing.specs.Lawful.{View, sold, percentage, Lawful, surplus, filled_sales}
 use Rattle.clearing.specs.Ranges.{package_fits}
-use Rattle.clearing.proofs.Filling.{best-filled, parts_of_one}
+use Rattle.clearing.proofs.Filling.{ranged as ranges_of, market-most, best-filled, parts_of_one}
 use Rattle.clearing.proofs.Incomes.{income-few}
-use Rattle.clearing.proofs.Judged.{pairs_tell, groups_tell, zones_tell}
+use Rattle.clearing.proofs.Judged.{pairs_tell, groups_tell, zones_tell, dates_tell}
 use Rattle.clearing.proofs.Ranged.{Ranged}
 use Rattle.clearing.proofs.RowRules.{all_both}
 use Rattle.clearing.proofs.Takings.{taken-fits, taken-few}
 use Rattle.clearing.proofs.Tallying.{cost_between}
 use Rattle.bounds.specs.Blocks.{Span, InDocket, InBlock, Claims}
-use Rattle.bounds.specs.Rules.{last_of, fixed, possible, ceiling, always, all_in, limits_kept, smaller}
+use Rattle.bounds.specs.Rules.{last_of, fixed, possible, ceiling, always, all_in, limits_kept, shares_kept, smaller}
 use Rattle.bounds.specs.Costs.{cost-least}
-use Rattle.bounds.specs.Parts.{first_part, last_part}
+use Rattle.bounds.specs.Parts.{Part, first_part, last_part}
 
 -- a cap below two others holds where they do, and none where either does
 pub smaller-sound : (v : View) (b : Span) (one other : Option ℤ) → Claims v b one → Claims v b other → Claims v b (smaller one other)
@@ -48,22 +49,51 @@ module _ (v : View) (ranged : Ranged v) where
         let income = best.most 1 (omega arith) sales (parts_of_one v.bands sales lawful.within_quantities) (λ m. omega (arith, le_trans (lawful.within_supply m) (more.less _))) in
         omega (arith, ints, income, cost-least v b block choice inside)
 
-    -- where a choice of a block is lawful, the packages that all its choices take pass the tests
-    passed : (choice : ℕ) (sales : List ℕ) → InBlock b choice → Lawful v choice sales
-        → (pairs_met v.pairs (fixed v b) (possible v b) && (groups_apart v.exclusions (fixed v b) && zones_within v.limits (fixed v b))) ≡ true
-    passed choice sales inside lawful =
-        let less = first_part v b block choice inside in
+    -- where a choice of a block is lawful, what is part of its packages passes the tests, with the packages that any choice takes
+    pub part_passed : (choice : ℕ) (sales : List ℕ) → InBlock b choice → Lawful v choice sales → (T : List PricedPackage) → Part T (taken v.packages choice)
+        → (pairs_met v.pairs T (possible v b) && (groups_apart v.exclusions T && zones_within v.limits T)) ≡ true
+    part_passed choice sales inside lawful T less =
         let more = last_part v b block choice inside in
         let zones = (all_both _ _ v.limits).1 (lawful.interconnection, lawful.export) in
         and_from _ _
-        ((pairs_tell v.pairs (fixed v b) (possible v b)).1 (All-weaker _ _ (λ p needs has. more.among p.needed (needs (less.among p.dependent has))) v.pairs lawful.pairs))
+        ((pairs_tell v.pairs T (possible v b)).1 (All-weaker _ _ (λ p needs has. more.among p.needed (needs (less.among p.dependent has))) v.pairs lawful.pairs))
         (and_from _ _
-        ((groups_tell v.exclusions (fixed v b)).1 (All-weaker _ _ (λ e. All-weaker _ _ (λ f apart same one other. apart same (less.among e.member one) (less.among f.member other)) v.exclusions) v.exclusions lawful.exclusions))
-        ((zones_tell v.limits (fixed v b)).1 (All-weaker _ _ (λ l kept. ((λ is. le_trans (less.less _) (kept.0 is)), (λ is. le_trans (less.less _) (kept.1 is)))) v.limits zones)))
+        ((groups_tell v.exclusions T).1 (All-weaker _ _ (λ e. All-weaker _ _ (λ f apart same one other. apart same (less.among e.member one) (less.among f.member other)) v.exclusions) v.exclusions lawful.exclusions))
+        ((zones_tell v.limits T).1 (All-weaker _ _ (λ l kept. ((λ is. le_trans (less.less _) (kept.0 is)), (λ is. le_trans (less.less _) (kept.1 is)))) v.limits zones)))
 
-    -- so where they do not, no choice is lawful; and no surplus is above the ceiling
+    -- so where those that all its choices take do not, no choice is lawful; and no surplus is above the ceiling
     pub limits-sound : Claims v b (limits_kept v b)
     limits-sound =
         cond_both _ (Some ceiling) None (Claims v b)
         (λ _ choice sales inside lawful. surplus-few choice sales lawful)
-        (λ fails choice sales inside lawful. both_ways _ fails (passed choice sales inside lawful))
+        (λ fails choice sales inside lawful. both_ways _ fails (part_passed choice sales inside lawful (fixed v b) (first_part v b block choice inside)))
+
+    -- where a choice is lawful, the fixed packages keep the percentages of the most that can be sold: they have no more that is dated,
+    -- and the choice sells no more
+    shared : (choice : ℕ) (sales : List ℕ) → InBlock b choice → Lawful v choice sales → (date m percent : ℕ)
+        → 100 * dated date m (taken v.packages choice) ≤ percent * sold v.bands sales m
+        → 100 * dated date m (fixed v b) ≤ percent * sold v.bands (filled_sales v (last_of b)) m
+    shared choice sales inside lawful date m percent kept =
+        let less = (first_part v b block choice inside).less (λ p. where_so (p.«record».date == date) (supplied m p.«record»)) in
+        let more = last_part v b block choice inside in
+        let most = market-most v.bands (λ m. supply m (possible v b)) ranged.order.numbers ranged.order.ahead (ranges_of v.bands ranged.bands) 1 sales
+        (parts_of_one v.bands sales lawful.within_quantities) (λ m. omega (arith, le_trans (lawful.within_supply m) (more.less _))) m in
+        let more_sold : sold v.bands sales m ≤ sold v.bands (filled_sales v (last_of b)) m = omega (arith, most) in
+        omega (arith, less, kept, mul-le-mul_left percent more_sold)
+
+    dates_passed : (choice : ℕ) (sales : List ℕ) → InBlock b choice → Lawful v choice sales → dates_within v (fixed v b) (filled_sales v (last_of b)) ≡ true
+    dates_passed choice sales inside lawful =
+        let kept = shared choice sales inside lawful in
+        let before = λ (m : ℕ) (low : 1 ≤ m) (high : m ≤ 3). kept 1 m (percentage v.limits 1) (lawful.power_before m low high) in
+        let after = λ (m : ℕ) (low : 1 ≤ m) (high : m ≤ 3). kept 2 m (percentage v.limits 2) (lawful.power_after m low high) in
+        (dates_tell v (fixed v b) (filled_sales v (last_of b))).1 (
+          ((before 1 (omega arith) (omega arith), after 1 (omega arith) (omega arith)), ((before 2 (omega arith) (omega arith), after 2 (omega arith) (omega arith)), ((before 3 (omega arith) (omega arith), after 3 (omega arith) (omega arith)), tt))),
+          (kept 1 5 (percentage v.limits 3) lawful.certificates_before, kept 2 5 (percentage v.limits 4) lawful.certificates_after),
+        )
+
+    -- so where they do not, no choice is lawful
+    pub shares-sound : Claims v b (shares_kept v b)
+    shares-sound =
+        cond_both _ (Some ceiling) None (Claims v b)
+        (λ _ choice sales inside lawful. surplus-few choice sales lawful)
+        (λ fails choice sales inside lawful. both_ways _ fails (dates_passed choice sales inside lawful))

@@ -2,11 +2,12 @@
 use Rattle.std.specs.Prelude.{List, [], ◌∷◌, map}
 use Rattle.clearing.proofs.ClosedRanges.{ranged-closing}
 use Rattle.bounds.specs.declared.names.Named.{Named}
-use Rattle.bounds.specs.declared.names.Named.TheVariants.{Ceiling, AllIn, OneByOne, Limits}
+use Rattle.bounds.specs.declared.names.Named.TheVariants.{Ceiling, AllIn, OneByOne, Limits, Shares, Tangent}
 use Rattle.bounds.specs.Blocks.{Answers, SoundRule}
 use Rattle.bounds.specs.Rules.{joined, chained, named}
-use Rattle.bounds.specs.Caps.{always-sound, all_in-sound, limits-sound, smaller-sound}
+use Rattle.bounds.specs.Caps.{always-sound, all_in-sound, limits-sound, shares-sound, smaller-sound}
 use Rattle.bounds.specs.Gains.{one_by_one-sound}
+use Rattle.bounds.specs.Tangents.{tangent-sound}
 
 -- each rule by itself is
 pub named-sound : (name : Named) → SoundRule (named name)
@@ -14,6 +15,8 @@ named-sound Ceiling v b closed block = always-sound v (ranged-closing v closed) 
 named-sound AllIn v b closed block = all_in-sound v (ranged-closing v closed) b block
 named-sound OneByOne v b closed block = one_by_one-sound v (ranged-closing v closed) b block
 named-sound Limits v b closed block = limits-sound v (ranged-closing v closed) b block
+named-sound Shares v b closed block = shares-sound v (ranged-closing v closed) b block
+named-sound Tangent v b closed block = tangent-sound v (ranged-closing v closed) b block
 
 -- two sound rules joined are
 joined-sound : (one other : Answers) → SoundRule one → SoundRule other → SoundRule (joined one other)

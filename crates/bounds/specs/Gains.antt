@@ -1,5 +1,5 @@
 -- Why one-by-one is sound: what packages add together is no more than what each adds alone.
-use Rattle.std.specs.Prelude.{◌≡◌, ℕ, zero, suc, ◌+◌, ◌-◌, ◌*◌, ◌/◌, ◌%◌, ◌^◌, ◌<◌, ◌≤◌, Bool, true, false, cond, List, [], ◌∷◌, length, get_or, ◌+ℤ◌, ◌≤ℤ◌, ◌==◌, slice_index_or}
+use Rattle.std.specs.Prelude.{◌≡◌, ℕ, zero, suc, ◌+◌, ◌-◌, ◌*◌, ◌/◌, ◌%◌, ◌^◌, ◌<◌, ◌≤◌, Bool, true, false, cond, ◌||◌, List, [], ◌∷◌, length, get_or, ◌+ℤ◌, ◌≤ℤ◌, ◌==◌, refl, slice_index_or}
 use Rattle.std.proofs.Common.{sym, ap, ◌∙◌, ⊎_elim, add-zero, zero-add, div-add-mod', arith, pow_mono}
 use Rattle.std.proofs.Math.Nat.{pow-succ', zero-mod}
 use Rattle.std.proofs.Math.Pow.{mod-mod-pow}
@@ -7,7 +7,7 @@ use Rattle.std.proofs.lemmas.Nat.{pow_pos}
 use Rattle.std.proofs.lemmas.Int.{ints, clamps}
 use Rattle.std.proofs.lemmas.Bool.{cases_lt}
 use Rattle.clearing.specs.declared.dockets.PricedPackage.{PricedPackage}
-use Rattle.clearing.specs.Choices.{taken, total, supplied, supply, cost}
+use Rattle.clearing.specs.Choices.{taken, total, supplied, supply, cost, has_number}
 use Rattle.clearing.specs.Lawful.{View}
 use Rattle.clearing.proofs.Diminishing.{income-added}
 use Rattle.clearing.proofs.Filling.{ranged as ranges_of}
@@ -17,18 +17,30 @@ use Rattle.bounds.specs.Blocks.{Span, InDocket, Claims}
 use Rattle.bounds.specs.Rules.{unlimited, gains, one_by_one}
 use Rattle.bounds.specs.Parts.{lowest, first_part}
 
--- Packages with one more among them: what it counts and costs is added.
-record More (p : PricedPackage) (xs ys : List PricedPackage) : Type 0 where
-  amount : (f : PricedPackage → ℕ) → total f ys ≡ total f xs + f p
-  price : cost ys ≡ cost xs +ℤ p.price
+-- Packages with one more among them: what it counts and costs is added, and its number.
+pub record More (p : PricedPackage) (xs ys : List PricedPackage) : Type 0 where
+  pub amount : (f : PricedPackage → ℕ) → total f ys ≡ total f xs + f p
+  pub price : cost ys ≡ cost xs +ℤ p.price
+  pub among : (n : ℕ) → has_number n ys ≡ p.number == n || has_number n xs
 
 -- as the first of them
 more_first : (p : PricedPackage) (xs : List PricedPackage) → More p xs (p ∷ xs)
-more_first p xs = record { amount = λ f. omega arith; price = omega (arith, ints) }
+more_first p xs = record { amount = λ f. omega arith; price = omega (arith, ints); among = λ n. refl }
+
+-- of three tests the first two may change places
+either_first : (a b c : Bool) → a || (b || c) ≡ b || (a || c)
+either_first true true c = refl
+either_first true false c = refl
+either_first false true c = refl
+either_first false false c = refl
 
 -- or after one that is taken or is not
 more_later : (p q : PricedPackage) (xs ys : List PricedPackage) (one : Bool) → More p xs ys → More p (cond one (q ∷ xs) xs) (cond one (q ∷ ys) ys)
-more_later p q xs ys true more = record { amount = λ f. omega (arith, more.amount f); price = omega (arith, ints, more.price) }
+more_later p q xs ys true more = record {
+  amount = λ f. omega (arith, more.amount f);
+  price = omega (arith, ints, more.price);
+  among = λ n. ap (λ t. q.number == n || t) (more.among n) ∙ either_first (q.number == n) (p.number == n) (has_number n xs);
+}
 more_later p q xs ys false more = more
 
 -- a digit that is 0 and becomes 1 is one package more
@@ -63,6 +75,10 @@ module _ (v : View) (ranged : Ranged v) (b : Span) (block : InDocket v b) where
       let first : q * 2 ^ suc i ≡ b.first = omega (arith, div-add-mod' b.first (2 ^ suc i), divides_less b.first (suc i) b.free block.zeros free) in
       rw first at (taken_more i q r low v.packages (omega (arith, block.few)))
 
+  -- to the first one
+  pub alone_more : (i : ℕ) → i < b.free → More (slice_index_or v.packages i no_package) (taken v.packages b.first) (taken v.packages (b.first + 2 ^ i))
+  alone_more i free = rw (add-zero b.first, zero-add (2 ^ i)) at (one_more i 0 free (pow_pos i))
+
   -- it is worth no more to the choice than to the first one, which takes less
   worth_more : (i r : ℕ) → i < b.free → r < 2 ^ i
       → (unlimited v (b.first + (r + 2 ^ i)) +ℤ unlimited v b.first) ≤ℤ (unlimited v (b.first + r) +ℤ unlimited v (b.first + 2 ^ i))
@@ -70,7 +86,7 @@ module _ (v : View) (ranged : Ranged v) (b : Span) (block : InDocket v b) where
       let p = get_or v.packages i no_package in
       let ps = v.packages in
       let added = one_more i r free low in
-      let alone = rw (add-zero b.first, zero-add (2 ^ i)) at (one_more i 0 free (pow_pos i)) in
+      let alone = alone_more i free in
       let few : i ≤ b.free = omega arith in
       let less = first_part v b block (b.first + r) (record { from = omega arith; below = omega (arith, low, pow_mono few) }) in
       let income = income-added v.bands ranged.order.numbers ranged.order.ahead (ranges_of v.bands ranged.bands)

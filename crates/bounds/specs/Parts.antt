@@ -1,6 +1,6 @@
 -- What the choices of a block take: each all that the first takes, the last all that any takes.
-use Rattle.std.specs.Prelude.{◌≡◌, ℕ, zero, suc, ◌+◌, ◌-◌, ◌*◌, ◌/◌, ◌%◌, ◌^◌, ◌<◌, ◌≤◌, Bool, true, false, cond, ◌⊎◌, List, [], ◌∷◌, ◌==◌, refl}
-use Rattle.std.proofs.Common.{sym, ap, ◌∙◌, inl, inr, ⊎_elim, mul_left_comm, div-add-mod', arith}
+use Rattle.std.specs.Prelude.{◌≡◌, ℕ, zero, suc, ◌+◌, ◌-◌, ◌*◌, ◌/◌, ◌%◌, ◌^◌, ◌<◌, ◌≤◌, Bool, true, false, cond, ◌⊎◌, List, [], ◌∷◌, ◌++◌, ◌==◌, refl}
+use Rattle.std.proofs.Common.{le_trans, sym, ap, ◌∙◌, inl, inr, ⊎_elim, mul_left_comm, div-add-mod', arith}
 use Rattle.std.proofs.Math.Nat.{pow-succ'}
 use Rattle.std.proofs.lemmas.Nat.{pow_pos}
 use Rattle.std.proofs.lemmas.Bool.{true≢false, or_cases, or_left, or_right, eqb-true, eq-eqb}
@@ -16,7 +16,7 @@ pub record Part (xs ys : List PricedPackage) : Type 0 where
   pub among : (n : ℕ) → has_number n xs ≡ true → has_number n ys ≡ true
 
 -- packages are part of themselves
-part_same : (xs : List PricedPackage) → Part xs xs
+pub part_same : (xs : List PricedPackage) → Part xs xs
 part_same xs = record { less = λ f. omega arith; among = λ n has. has }
 
 module _ (p : PricedPackage) (xs ys : List PricedPackage) (part : Part xs ys) where
@@ -28,7 +28,7 @@ module _ (p : PricedPackage) (xs ys : List PricedPackage) (part : Part xs ys) wh
   }
 
   -- and so with the same one more
-  part_both : Part (p ∷ xs) (p ∷ ys)
+  pub part_both : Part (p ∷ xs) (p ∷ ys)
   part_both = record {
     less = λ f. omega (arith, part.less f);
     among = λ n has.
@@ -38,11 +38,23 @@ module _ (p : PricedPackage) (xs ys : List PricedPackage) (part : Part xs ys) wh
   }
 
   -- and with one more to each that takes it, if it is taken by the others where by these
-  part_next : (one other : Bool) → (one ≡ true → other ≡ true) → Part (cond one (p ∷ xs) xs) (cond other (p ∷ ys) ys)
+  pub part_next : (one other : Bool) → (one ≡ true → other ≡ true) → Part (cond one (p ∷ xs) xs) (cond other (p ∷ ys) ys)
   part_next true true so = part_both
   part_next true false so = absurd (true≢false (sym (so refl)))
   part_next false true so = part_more
   part_next false false so = part
+
+-- what is part of a part is part of the whole
+pub part_of_part : (xs ys zs : List PricedPackage) → Part xs ys → Part ys zs → Part xs zs
+part_of_part xs ys zs one other = record {
+  less = λ f. le_trans (one.less f) (other.less f);
+  among = λ n has. other.among n (one.among n has);
+}
+
+-- packages are part of themselves with others before them
+pub part_after : (xs ys : List PricedPackage) → Part ys (xs ++ ys)
+part_after [] ys = part_same ys
+part_after (x ∷ xs) ys = part_more x ys (xs ++ ys) (part_after xs ys)
 
 -- what the lowest digit of a choice is, and the choice without it, with one free digit more than so many
 pub lowest : (q k r : ℕ) → ((q * 2 ^ suc k + r) % 2 ≡ r % 2) × ((q * 2 ^ suc k + r) / 2 ≡ q * 2 ^ k + r / 2)

@@ -1,13 +1,18 @@
 -- What each bounding rule answers. Assumes nothing.
-use Rattle.std.specs.Prelude.{ℕ, zero, suc, ◌+◌, ◌-◌, ◌^◌, cond, ◌&&◌, List, [], ◌∷◌, take, fold, ℤ, pos, ◌+ℤ◌, ◌-ℤ◌, Some, None, Option}
+use Rattle.std.specs.Prelude.{ℕ, zero, suc, ◌+◌, ◌-◌, ◌*◌, ◌^◌, cond, Bool, ◌&&◌, List, [], ◌∷◌, take, fold, ℤ, pos, ◌+ℤ◌, ◌-ℤ◌, Some, None, Option}
 use Rattle.std.specs.Int.{int_max, int_min}
+use Rattle.std.specs.List.{filter}
 use Rattle.clearing.specs.declared.dockets.PricedPackage.{PricedPackage}
-use Rattle.clearing.specs.Choices.{taken, cost}
-use Rattle.clearing.specs.Judging.{pairs_met, groups_apart, zones_within}
+use Rattle.clearing.specs.declared.dockets.OpenBand.{OpenBand}
+use Rattle.clearing.specs.Choices.{taken, total, supply, cost}
+use Rattle.clearing.specs.Judging.{pairs_met, groups_apart, zones_within, dates_within}
 use Rattle.clearing.specs.Lawful.{View, income, surplus, filled_sales}
+use Rattle.clearing.specs.Sales.{filled}
+use Rattle.clearing.specs.Tallies.{row}
 use Rattle.bounds.specs.Blocks.{Span, Answers}
+use Rattle.bounds.specs.Multipliers.{Multipliers, unit_worth, gain, multipliers}
 use Rattle.bounds.specs.declared.names.Named.{Named}
-use Rattle.bounds.specs.declared.names.Named.TheVariants.{Ceiling, AllIn, OneByOne, Limits}
+use Rattle.bounds.specs.declared.names.Named.TheVariants.{Ceiling, AllIn, OneByOne, Limits, Shares, Tangent}
 
 -- the choice of a block that takes every free package
 abbrev pub last_of : Span → ℕ
@@ -61,6 +66,41 @@ limits_kept v b =
     cond (pairs_met v.pairs (fixed v b) (possible v b) && (groups_apart v.exclusions (fixed v b) && zones_within v.limits (fixed v b)))
     (Some ceiling) None
 
+-- a package that could be taken with others, by the tests of the limits rule (W: those that may be taken in all)
+abbrev pub joins : View → List PricedPackage → List PricedPackage → PricedPackage → Bool
+joins v T W p = pairs_met v.pairs (p ∷ T) W && (groups_apart v.exclusions (p ∷ T) && zones_within v.limits (p ∷ T))
+
+-- the free packages of a block that could be taken with the fixed ones
+abbrev pub live_ones : View → Span → List PricedPackage
+live_ones v b = filter (joins v (fixed v b) (possible v b)) (free_ones v b)
+
+-- what is sold of a supply beyond what is sold of a smaller one, at what each band pays for a unit above its worth
+abbrev pub sold_above : Multipliers → List OpenBand → List ℕ → List ℕ → ℕ
+sold_above l bands less more =
+    total (λ b. (filled more b - filled less b) * (b.«record».price - unit_worth l b.«record».market)) bands
+
+-- of gains only what is above 0, together
+abbrev pub gains_above : Multipliers → List PricedPackage → ℤ
+gains_above l [] = pos 0
+gains_above l (p ∷ ps) = int_max (gain l p) (pos 0) +ℤ gains_above l ps
+
+-- the cap by multipliers, with some packages free: the surplus of the fixed, lawful or not, what all would sell beyond that above its
+-- worth, and the gains of the free
+abbrev pub tangent_by : Multipliers → List PricedPackage → View → Span → ℤ
+tangent_by l free v b =
+    (unlimited v b.first
+    +ℤ pos (sold_above l v.bands (row (λ m. supply m (fixed v b)) 1 5) (row (λ m. supply m (fixed v b) + supply m free) 1 5)))
+    +ℤ gains_above l free
+
+-- tangent: with the multipliers of the block
+abbrev pub tangent : Answers
+tangent v b = Some (tangent_by (multipliers v.bands (fixed v b) (live_ones v b)) (live_ones v b) v b)
+
+-- shares: none where what is dated of the fixed packages is above its percentage of the most that any choice of the block can sell in
+-- its market
+abbrev pub shares_kept : Answers
+shares_kept v b = cond (dates_within v (fixed v b) (filled_sales v (last_of b))) (Some ceiling) None
+
 -- joined: none where either of two rules says so, else the smaller cap
 abbrev pub smaller : Option ℤ → Option ℤ → Option ℤ
 smaller None other = None
@@ -85,3 +125,5 @@ named Ceiling = always
 named AllIn = all_in
 named OneByOne = one_by_one
 named Limits = limits_kept
+named Shares = shares_kept
+named Tangent = tangent

@@ -1,4 +1,8 @@
 // No choice of a block is lawful where the packages that it takes for certain break a rule already.
+ghost use Rattle.std.specs.Prelude.{◌≡◌, ◌&&◌, List};
+ghost use Rattle.clearing.specs.declared.dockets.PricedPackage.{PricedPackage};
+ghost use Rattle.clearing.specs.Judging.{pairs_met, groups_apart, zones_within};
+ghost use Rattle.clearing.specs.Tallies.{tally_of};
 ghost use Rattle.bounds.specs.Rules.{limits_kept};
 ghost use Rattle.clearing.proofs.ClosedRanges.{ranged-closing};
 ghost use Rattle.bounds.specs.Caps.{limits-sound};
@@ -19,13 +23,19 @@ impl BoundingRule for Limits {
     fn consult(&mut self, docket: &Docket, block: Block) -> Option<i64> {
         let taken = Tally::of(docket, block.first);
         let possible = Tally::of(docket, block.last());
-        if pairs_kept(docket, &taken, &possible)
-            && exclusions_kept(docket, &taken)
-            && zones_kept(docket, &taken)
-        {
+        if stands(docket, &taken, &possible) {
             Some(CEILING)
         } else {
             None
         }
     }
+}
+
+// Whether taken packages keep the rules that taking more of the possible ones does not mend.
+pub(crate) fn stands(docket: &Docket, taken: &Tally, possible: &Tally) -> bool
+    ensures { (T W : List PricedPackage) → taken.now ≡ tally_of T → possible.now ≡ tally_of W → result ≡ (pairs_met docket.now.pairs.list.items T W && (groups_apart docket.now.exclusions.list.items T && zones_within docket.now.limits.list.items T)) }
+{
+    pairs_kept(docket, taken, possible)
+        && exclusions_kept(docket, taken)
+        && zones_kept(docket, taken)
 }

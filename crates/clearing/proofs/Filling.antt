@@ -129,7 +129,7 @@ module _ (bs : List OpenBand) (amount : ℕ → ℕ) (rise : rising bs ≡ true)
         (times_least d _ (amount m) (wanted (at_least m p) bs) (omega (arith, sold_part m p bs ss, few m)) (within-wanted d (at_least m p) bs ss parts))
 
     -- nor more of a market
-    market-most : (m : ℕ) → sold bs ss m ≤ d * sold bs (filled_of amount bs) m
+    pub market-most : (m : ℕ) → sold bs ss m ≤ d * sold bs (filled_of amount bs) m
     market-most m = rw (sold_all m bs ss, sold_all m bs (filled_of amount bs)) (front-most m 0)
 
     -- nor do they bring more of a market at cut prices, by the bands of at least each price

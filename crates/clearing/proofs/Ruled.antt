@@ -56,7 +56,7 @@ module _ (d : Docket) (choice : ℕ) where
         ∙ ap (λ t. income (vec_items d.bands.list) (map (filled t.supply) (vec_items d.bands.list))) counted
 
     -- a share of what is sold in a market says the same over both, where a row has the dated supply at its place
-    share-same : (xs : List ℕ) (f : ℕ → ℕ) (percent m : ℕ) → xs ≡ row f 1 5 → 1 ≤ m → m ≤ 5
+    pub share-same : (xs : List ℕ) (f : ℕ → ℕ) (percent m : ℕ) → xs ≡ row f 1 5 → 1 ≤ m → m ≤ 5
         → Same (Share percent xs s.sold m) (100 * f m ≤ percent * sold (vec_items d.bands.list) sales m)
     share-same xs f percent m is low high =
         let amount = ap (λ ys. get_or ys (m - 1) 0) is ∙ row_at f 5 m low high in

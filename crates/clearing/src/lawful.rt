@@ -1,10 +1,11 @@
 // Whether a choice keeps the rules.
 ghost use Rattle.std.specs.Prelude.{◌≡◌, ℕ, ◌-◌, ◌*◌, ◌≤◌, true, List, if◌then◌else◌, Decides, nat_eq, nat_le, slice_index};
 ghost use Rattle.offers.specs.Tables.{limit_layout};
+ghost use Rattle.clearing.specs.Choices.{taken};
 ghost use Rattle.clearing.specs.Filling.{BestFilled};
-ghost use Rattle.clearing.specs.Judging.{worth_of};
+ghost use Rattle.clearing.specs.Judging.{dates_within, worth_of};
 ghost use Rattle.clearing.specs.Kept.{PairsKept, ExclusionsKept, ZonesKept, DatesKept};
-ghost use Rattle.clearing.specs.Lawful.{view, Lawful, Worth, percentage};
+ghost use Rattle.clearing.specs.Lawful.{view, Lawful, Worth, filled_sales, percentage};
 ghost use Rattle.clearing.specs.Tallies.{row};
 ghost use Rattle.clearing.specs.Ranges.{each, fits};
 
@@ -107,6 +108,16 @@ fn dates_kept(docket: &Docket, taken: &Tally, sales: &Sales) -> bool
             && share_kept(least[1], &taken.after, &sales.sold, market)
     }) && share_kept(least[2], &taken.before, &sales.sold, CERTIFICATES)
         && share_kept(least[3], &taken.after, &sales.sold, CERTIFICATES)
+}
+
+// Whether what is dated of the packages that one choice takes keeps the percentages of what another choice's filled sales sell.
+pub fn dates_stand(docket: &Docket, first: u64, last: u64) -> bool
+    ensures { result ≡ dates_within (view docket.now) (taken docket.now.packages.list.items first) (filled_sales (view docket.now) last) }
+{
+    let dated = Tally::of(docket, first);
+    let selling = Tally::of(docket, last);
+    let sales = sell(docket, &selling.supply);
+    dates_kept(docket, &dated, &sales)
 }
 
 // The surplus in pesos of a choice with filled sales, if it is lawful. One docket is asked about many choices, so the two stay two

@@ -1,5 +1,5 @@
 // What a supply sells: the bands are filled by falling price, equal prices by rising number.
-ghost use Rattle.std.specs.Prelude.{◌≡◌, true};
+ghost use Rattle.std.specs.Prelude.{◌≡◌, true, map, slice_index};
 ghost use Rattle.clearing.specs.Ranges.{band_fits};
 ghost use Rattle.clearing.specs.Tallies.{row};
 ghost use Rattle.clearing.specs.Sales.{filled, sale_of, sales_of};
@@ -20,6 +20,16 @@ pub(crate) fn sale(supply: &[u64; 5], band: &OpenBand) -> u64
 {
     let left = supply[band.record.market as usize - 1].saturating_sub(band.ahead);
     left.min(band.record.quantity as u64)
+}
+
+// What the band at a place of the docket is sold, 0 past the last.
+pub fn sale_at(docket: &Docket, supply: &[u64; 5], place: usize) -> u64
+    ensures { result ≡ slice_index (map (filled supply.now) docket.now.bands.list.items) place }
+{
+    match docket.bands.list.get(place) {
+        Some(band) => sale(supply, band),
+        None => 0,
+    }
 }
 
 // What a supply of each market sells to the docket's bands.

@@ -1,6 +1,6 @@
 // What the taken packages of a choice come to, in one pass over the docket.
 ghost use Rattle.std.specs.Prelude.{◌≡◌, true, nat_le};
-ghost use Rattle.clearing.specs.Choices.{taken, supplied};
+ghost use Rattle.clearing.specs.Choices.{taken, supplied, supply};
 ghost use Rattle.clearing.specs.Ranges.{each, package_fits};
 ghost use Rattle.clearing.specs.Tallies.{tally_of, Room, added, row, plus};
 
@@ -71,6 +71,17 @@ impl Tally {
             self.export[record.export_zone as usize - 1] += record.energy as u64;
         }
     }
+}
+
+// What a choice's packages supply to each market, in one light pass for those who need no more of the sums.
+pub fn supply_of(docket: &Docket, choice: u64) -> [u64; 5]
+    ensures { result ≡ row (λ m. supply m (taken docket.now.packages.list.items choice)) 1 5 }
+{
+    let mut sums = [0u64; 5];
+    for package in docket.taken(choice) {
+        add_supply(&mut sums, package);
+    }
+    sums
 }
 
 // Adds what a package supplies to each market.

@@ -1,7 +1,7 @@
 // Awards of other rounds than the worked ones: each rule of lawfulness that those leave out, and other bounding rules.
 use crate::fixtures::{
     Told, band, check_answers, check_award, excluded, filing, four_packages, limit, needs, package,
-    six_bands, unqualified,
+    row, six_bands, unqualified,
 };
 use bounds::all_in::AllIn;
 use bounds::blocks::BoundingRule;
@@ -9,6 +9,8 @@ use bounds::ceiling::Ceiling;
 use bounds::joined::Joined;
 use bounds::limits::Limits;
 use bounds::one_by_one::OneByOne;
+use bounds::shares::Shares;
+use bounds::tangent::Tangent;
 use offers::memory::{Kind, Offer};
 use offers::records::Package;
 use pricing::filed::Filed;
@@ -147,6 +149,9 @@ fn bands_of_equal_price(rt: HostRuntime) -> Result<(), Fail> {
     check_award(&rt, requests, 2, 1, 33, &[4, 3, 0, 0, 3])
 }
 
+const ALL_JOINED: Joined<Limits, Joined<AllIn, Joined<Shares, Tangent>>> =
+    Joined(Limits, Joined(AllIn, Joined(Shares, Tangent)));
+
 // The four-package round where package 3 needs 2, searched under a rule: it ends with the last of so many steps.
 fn check_steps<R: Abort + AllocGlobal, B: BoundingRule + Copy + Drop>(
     rt: &R,
@@ -168,7 +173,53 @@ fn steps_under_each_rule(rt: HostRuntime) -> Result<(), Fail> {
     check_steps(&rt, AllIn, 26)?;
     check_steps(&rt, OneByOne, 20)?;
     check_steps(&rt, Limits, 22)?;
-    check_steps(&rt, Joined(OneByOne, Limits), 16)
+    check_steps(&rt, Joined(OneByOne, Limits), 16)?;
+    check_steps(&rt, Shares, 26)?;
+    check_steps(&rt, Tangent, 18)?;
+    check_steps(&rt, ALL_JOINED, 16)
+}
+
+// The worked rounds of four packages, searched to their ends under a rule: each has the award that it has under any.
+fn check_rule<R: Abort + AllocGlobal, B: BoundingRule + Copy + Drop>(
+    rt: &R,
+    rule: B,
+) -> Result<(), Fail> {
+    let packages = four_packages();
+    let limited = packages.map(unqualified);
+    let mut dated = packages;
+    dated[2].date = 1;
+    let rounds: [(&[Package], &[Offer], u64, i64); 7] = [
+        (&packages, &[], 13, 123_500_000),
+        (&packages, &[excluded(1, 1), excluded(1, 3)], 14, 103_000_000),
+        (&packages, &[needs(3, 2)], 15, 118_500_000),
+        (&limited, &[limit(1, 1, 50)], 5, 111_500_000),
+        (&limited, &[limit(1, 1, 49)], 6, 80_500_000),
+        (&dated, &[limit(3, 1, 25)], 13, 123_500_000),
+        (&dated, &[limit(3, 1, 24)], 15, 118_500_000),
+    ];
+    for (packages, others, choice, surplus) in rounds {
+        let mut requests = filing(rt.alloc(), packages, &six_bands(), others)?;
+        requests.push(Request::Close(Filed))?;
+        requests.push(Request::Search(rule, 1_000_000))?;
+        requests.push(Request::ReadAward(row(rt.alloc(), 64)?))?;
+        let last = [
+            Told::Found(16, surplus),
+            Told::Awarded(choice, surplus),
+        ];
+        check_answers(rt, requests, &last)?;
+    }
+    Ok(())
+}
+
+#[test]
+fn one_award_under_all_rules(rt: HostRuntime) -> Result<(), Fail> {
+    check_rule(&rt, Ceiling)?;
+    check_rule(&rt, AllIn)?;
+    check_rule(&rt, OneByOne)?;
+    check_rule(&rt, Limits)?;
+    check_rule(&rt, Shares)?;
+    check_rule(&rt, Tangent)?;
+    check_rule(&rt, ALL_JOINED)
 }
 
 // Three searches of one round, each under another rule.

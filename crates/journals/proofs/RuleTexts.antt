@@ -7,7 +7,7 @@ use Rattle.std.proofs.lemmas.List.Folds.{list_all-append}
 use Rattle.offers.specs.Fields.{within}
 use Rattle.pricing.specs.Numbers.{zone_number, zone_numbers, currency_rates}
 use Rattle.bounds.specs.declared.names.Named.{Named}
-use Rattle.bounds.specs.declared.names.Named.TheVariants.{Ceiling, AllIn, OneByOne, Limits}
+use Rattle.bounds.specs.declared.names.Named.TheVariants.{Ceiling, AllIn, OneByOne, Limits, Shares, Tangent}
 use Rattle.journals.specs.Chains.{Rules, rules_in, chain_at}
 use Rattle.journals.specs.Names.{case_named, bounding_rules}
 use Rattle.journals.specs.Readers.{name_at}
@@ -56,6 +56,8 @@ case_named-rule Ceiling = refl
 case_named-rule AllIn = refl
 case_named-rule OneByOne = refl
 case_named-rule Limits = refl
+case_named-rule Shares = refl
+case_named-rule Tangent = refl
 
 rules_in-words : (others : List Named) → rules_in (map rule_word others) ≡ Ok others
 rules_in-words [] = refl
@@ -76,12 +78,16 @@ rule-word Ceiling = refl
 rule-word AllIn = refl
 rule-word OneByOne = refl
 rule-word Limits = refl
+rule-word Shares = refl
+rule-word Tangent = refl
 
 is_word-rule : (rule : Named) → is_word (rule_word rule) ≡ true
 is_word-rule Ceiling = refl
 is_word-rule AllIn = refl
 is_word-rule OneByOne = refl
 is_word-rule Limits = refl
+is_word-rule Shares = refl
+is_word-rule Tangent = refl
 
 rule-words : (others : List Named) → Words no_plus (map rule_word others)
 rule-words [] = tt
@@ -120,6 +126,8 @@ rule-above Ceiling = refl
 rule-above AllIn = refl
 rule-above OneByOne = refl
 rule-above Limits = refl
+rule-above Shares = refl
+rule-above Tangent = refl
 
 plus-above : (others : List Named) → list_all above_blank (flat_map (λ other. 43 ∷ rule_word other) others) ≡ true
 plus-above [] = refl

@@ -57,4 +57,6 @@ bounding_rules =
     ∷ record { word = codes "all-in"; case = rule.AllIn }
     ∷ record { word = codes "one-by-one"; case = rule.OneByOne }
     ∷ record { word = codes "limits"; case = rule.Limits }
+    ∷ record { word = codes "shares"; case = rule.Shares }
+    ∷ record { word = codes "tangent"; case = rule.Tangent }
     ∷ []

@@ -38,6 +38,8 @@ rule_word rule.Ceiling = codes "ceiling"
 rule_word rule.AllIn = codes "all-in"
 rule_word rule.OneByOne = codes "one-by-one"
 rule_word rule.Limits = codes "limits"
+rule_word rule.Shares = codes "shares"
+rule_word rule.Tangent = codes "tangent"
 
 abbrev pub kind_of : Offer → Kind
 kind_of (offer.Package r) = kind.Package

@@ -140,3 +140,107 @@ impl fmt::Display for AnswerLine<'_> {
         }
     }
 }
+
+#[cfg(test)]
+mod tests {
+    use super::*;
+    use offers::refusals::Code;
+    use rounds::awarded_round::Award;
+    use search::positions::Position;
+    use std::process::Abort;
+    use std::test::*;
+
+    // A reply is written so.
+    fn check_answer<R: Abort + AllocGlobal>(
+        rt: &R,
+        reply: &Reply,
+        shown: Shown,
+        want: &str,
+    ) -> Result<(), Fail> {
+        let line = AnswerLine {
+            reply,
+            stage: Stage::Closed(Position::start()),
+            shown,
+        };
+        assert_eq!(rt; line.to_string(rt.alloc())?.as_str(), want);
+        Ok(())
+    }
+
+    #[test]
+    fn answers(rt: HostRuntime) -> Result<(), Fail> {
+        let heap = rt.alloc();
+        let refusal = Refusal {
+            code: Code::StepsOutside,
+            tag: 255,
+            number: 254,
+            field: 253,
+            byte: 18446744073709551615,
+            depth: 252,
+        };
+        let refused = "refused 12 tag 255 number 254 field 253 byte 18446744073709551615 depth 252";
+        let award = Award {
+            choice: 18446744073709551615,
+            surplus: -9223372036854775808,
+        };
+        for (reply, shown, want) in [
+            (Reply::Done(Ok(())), Shown::Whole, "done"),
+            (Reply::Reopened, Shown::Whole, "done"),
+            (Reply::Done(Err(refusal)), Shown::Whole, refused),
+            (
+                Reply::Found(Ok((1, 0))),
+                Shown::Whole,
+                "settled 1 surplus 0",
+            ),
+            (
+                Reply::Found(Ok((18446744073709551615, -1))),
+                Shown::Whole,
+                "settled 18446744073709551615 surplus -1",
+            ),
+            (Reply::Found(Err(refusal)), Shown::Whole, refused),
+            (
+                Reply::Awarded(Ok(award), vec![in heap; 0, 18446744073709551615, 7]?),
+                Shown::Whole,
+                "choice 18446744073709551615 surplus -9223372036854775808 sold 0 18446744073709551615 7",
+            ),
+            (
+                Reply::Awarded(Err(refusal), vec![in heap; 1]?),
+                Shown::Whole,
+                refused,
+            ),
+            (
+                Reply::Written(Ok(0), Vec::new(heap)),
+                Shown::Whole,
+                "sheet 0",
+            ),
+            (
+                Reply::Written(Ok(0), vec![in heap; 0]?),
+                Shown::Whole,
+                "sheet 0 00",
+            ),
+            (
+                Reply::Written(Ok(0), vec![in heap; 0]?),
+                Shown::Written,
+                "sheet 0",
+            ),
+            (
+                Reply::Written(Ok(2), vec![in heap; 171, 15, 0]?),
+                Shown::Whole,
+                "sheet 2 ab0f00",
+            ),
+            (
+                Reply::Written(Ok(2), vec![in heap; 171, 15, 0]?),
+                Shown::Written,
+                "sheet 2 ab0f",
+            ),
+            (
+                Reply::Written(Err(refusal), Vec::new(heap)),
+                Shown::Whole,
+                refused,
+            ),
+            (Reply::NotTaken, Shown::Whole, "not taken while closed"),
+        ] {
+            check_answer(&rt, &reply, shown, want)?;
+        }
+        Ok(())
+    }
+}

@@ -7,8 +7,6 @@ mod names;
 mod numbers;
 mod parts;
 mod records;
-#[cfg(test)]
-mod tests;
 mod words;
 
 // What a line says:

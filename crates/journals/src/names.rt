@@ -82,6 +82,8 @@ fn rule_named(word: &[u8]) -> Option<Named>
         b"all-in" => Some(Named::AllIn),
         b"one-by-one" => Some(Named::OneByOne),
         b"limits" => Some(Named::Limits),
+        b"shares" => Some(Named::Shares),
+        b"tangent" => Some(Named::Tangent),
         _ => None,
     }
 }

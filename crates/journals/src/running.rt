@@ -94,3 +94,99 @@ fn run<T: Watch>(heap: Global, lines: Vec<Line>, watch: &mut T) -> Result<Transc
         shown: plan.shown,
     })
 }
+
+#[cfg(test)]
+mod tests {
+    use super::*;
+    use printing::failing::{CutOff, Full};
+    use std::process::Abort;
+    use std::test::*;
+
+    // A journal is answered so, and has a mistake or has none.
+    fn check_run<R: Abort + AllocGlobal>(
+        rt: &R,
+        journal: &str,
+        mistaken: bool,
+        want: &str,
+    ) -> Result<(), Fail> {
+        let mut output = Vec::new(rt.alloc());
+        let answer = run_journal(rt.alloc(), journal.as_bytes(), &mut output, &mut ())?;
+        assert_eq!(rt; answer, mistaken, "{journal}");
+        assert_eq!(rt; output.as_slice(), want.as_bytes());
+        Ok(())
+    }
+
+    #[test]
+    fn journals_run(rt: HostRuntime) -> Result<(), Fail> {
+        check_run(&rt, "", false, "")?;
+        check_run(&rt, "award\n", false, "not taken while open\n")?;
+        check_run(
+            &rt,
+            "reopen\nreopen\nshet\nreopn\n",
+            true,
+            "line 3: the first word names no call\n",
+        )?;
+        let text =
+            "file package 1 0 10 0 0 20 1 1 1 1 0 0 0\nfile package 2 0 10 0 0 20 1 1 1 1 0 0 0\n\
+        file band 1 4 10 5\nfile band 1 4 10 5\nwithdraw limit 1\naward\nsheet\nclose filed\n\
+        search limits+all-in 1\nsearch ceiling 1000000\naward 1\naward 64\nreopen\nsearch limits 1\n";
+        let want = "done\ndone\ndone\nrefused 3 tag 2 number 1 field 0 byte 0 depth 0\n\
+        refused 5 tag 5 number 1 field 0 byte 0 depth 0\nnot taken while open\n\
+        sheet 86 0100210101000000000000000a000000000000000000000000000000140101010100000001002102010000000000000\
+        00a0000000000000000000000000000001401010101000000020\
+        00b0101040000000a00000005\n\
+        done\nsettled 2 surplus 30\nsettled 4 surplus 30\nrefused 11 tag 0 number 0 field 0 byte 0 depth 0\n\
+        choice 1 surplus 30 sold 10 0 0 0 0 0 0 0 0 0 0 0 0 0 0 0 0 0 0 0 0 0 0 0 0 0 0 0 0 0 0 0 0 0 0 0 0 0 0 0 0 0 0 \
+        0 0 0 0 0 0 0 0 0 0 0 0 0 0 0 0 0 0 0 0 0\ndone\nnot taken while open\n";
+        check_run(&rt, text, false, want)
+    }
+
+    #[test]
+    fn failures_come_out(rt: HostRuntime) {
+        let mut output = Vec::new(rt.alloc());
+        match run_journal(rt.alloc(), CutOff { is_cut: false }, &mut output, &mut ()) {
+            Ok(_) => assert!(rt; false, "answered half a journal"),
+            Err(e) => assert!(rt; e.kind() == ErrorKind::TimedOut),
+        }
+        assert!(rt; output.is_empty());
+        for journal in ["award", "awrd"] {
+            match run_journal(
+                rt.alloc(),
+                journal.as_bytes(),
+                &mut Full { room: 20 },
+                &mut (),
+            ) {
+                Ok(_) => assert!(rt; false, "wrote past the end"),
+                Err(e) => assert!(rt; e.kind() == ErrorKind::BrokenPipe),
+            }
+        }
+    }
+
+    // Keeps the last note, and counts all.
+    #[derive(Drop)]
+    struct Notes {
+        count: usize,
+        last: (usize, usize),
+    }
+
+    impl Watch for Notes {
+        fn made(&mut self, requests: usize, all: usize) {
+            self.count = self.count.saturating_add(1);
+            self.last = (requests, all);
+        }
+    }
+
+    #[test]
+    fn each_call_is_told(rt: HostRuntime) -> Result<(), Fail> {
+        let mut output = Vec::new(rt.alloc());
+        let mut notes = Notes {
+            count: 0,
+            last: (0, 0),
+        };
+        let journal: &[u8] = b"reopen\n# none\n\naward\nsheet\n";
+        let _ = run_journal(rt.alloc(), journal, &mut output, &mut notes)?;
+        assert_eq!(rt; notes.count, 3);
+        assert_eq!(rt; notes.last, (3, 3));
+        Ok(())
+    }
+}

@@ -5,7 +5,7 @@ use Rattle.offers.specs.declared.refusals.Refusal.{Refusal}
 use Rattle.pricing.specs.Prices.{Bounded, filed_price}
 use Rattle.clearing.specs.declared.dockets.OpenBand.{OpenBand}
 use Rattle.clearing.specs.Lawful.{View, view, surplus, filled_sales}
-use Rattle.bounds.specs.Rules.{limits_and_all_in}
+use Rattle.bounds.specs.Blocks.{Answers}
 use Rattle.search.specs.Search.{Standing, standing}
 use Rattle.rounds.specs.declared.awarded_round.AwardedRound.{AwardedRound}
 use Rattle.rounds.specs.Model.{Search, Done, beginning, sold_row}
@@ -46,14 +46,14 @@ filed_bounded : (p : Package) → Bounded (filed_price p)
 filed_bounded p = search rules
 
 -- The text of the report of a round that a sheet is cleared to answers the sheet.
-pub awarded_answers : (sheet : List ℕ) (round : AwardedRound) (report : Report) → Cleared beginning sheet round → Reports (view round.docket) (standing round.at) report
+pub awarded_answers : (rule : Answers) (sheet : List ℕ) (round : AwardedRound) (report : Report) → Cleared rule beginning sheet round → Reports (view round.docket) (standing round.at) report
     → AnswersSheet sheet false (report_text report)
-awarded_answers sheet round report cleared reports =
+awarded_answers rule sheet round report cleared reports =
     let v = view round.docket in
     let at = standing round.at in
     let f = cleared.finished in
-    let award : OfAward (sheet_calls sheet ++ replicate f.searches (Search limits_and_all_in f.steps)) v at = f.run (sheet_calls sheet) (tt, (filed_bounded, tt)) refl in
-    let docket = docket_of sheet v (first_done _ _ cleared.accepted) (closing_of sheet f.searches limits_and_all_in f.steps v award.closing) in
+    let award : OfAward (sheet_calls sheet ++ replicate f.searches (Search rule f.steps)) v at = f.run (sheet_calls sheet) (tt, (filed_bounded, tt)) refl in
+    let docket = docket_of sheet v (first_done _ _ cleared.accepted) (closing_of sheet f.searches rule f.steps v award.closing) in
     subst (λ (r : Result View Refusal). AnswersDocket r false (report_text report)) (sym docket)
     (refl, record { choice = at.leader; best = award.award.best; so = told v at report reports award.award.worth award.sales })
 

@@ -2,7 +2,7 @@
 use Rattle.std.specs.Prelude.{◌≡◌, ℕ, List, [], ◌∷◌, Some, None, Option, Ok}
 use Rattle.offers.specs.declared.refusals.Refusal.{Refusal}
 use Rattle.pricing.specs.Prices.{filed_price}
-use Rattle.bounds.specs.Rules.{limits_and_all_in}
+use Rattle.bounds.specs.Blocks.{Answers}
 use Rattle.rounds.specs.declared.awarded_round.AwardedRound.{AwardedRound}
 use Rattle.rounds.specs.Model.{Call, CatchUp, Close, Answer, Done, Model, answers_from, after_from}
 use Rattle.rounds.specs.Promises.{refusal_in}
@@ -21,12 +21,12 @@ abbrev pub first_refusal : List Answer → Option Refusal
 first_refusal [] = None
 first_refusal (answer ∷ answers) = first_of (refusal_in answer) (first_refusal answers)
 
--- A round that is awarded what a sheet makes of it.
-pub record Cleared (before : Model) (sheet : List ℕ) (round : AwardedRound) : Type 0 where
+-- A round that is awarded what a sheet makes of it, searched by a rule of this meaning.
+pub record Cleared (rule : Answers) (before : Model) (sheet : List ℕ) (round : AwardedRound) : Type 0 where
   -- both calls are accepted
   pub accepted : answers_from before (sheet_calls sheet) ≡ Done (Ok tt) ∷ Done (Ok tt) ∷ []
-  -- and the round is searched to its end under the limits and all-in rules joined; so its award is the best, as every run promises
-  pub finished : Finishes (after_from before (sheet_calls sheet)) limits_and_all_in (of_awarded round)
+  -- and the round is searched to its end by the rule; so its award is the best, as every run promises
+  pub finished : Finishes (after_from before (sheet_calls sheet)) rule (of_awarded round)
 
 -- or the first of the two that is refused says why
 abbrev pub NotCleared : Model → List ℕ → Refusal → Type 0

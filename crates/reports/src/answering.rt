@@ -5,9 +5,7 @@ ghost use Rattle.reports.specs.Answering.{Answered};
 ghost use Rattle.reports.specs.Cleared.{Cleared, NotCleared};
 
 use crate::report::{RefusedSheet, Report};
-use bounds::all_in::AllIn;
-use bounds::joined::Joined;
-use bounds::limits::Limits;
+use bounds::blocks::BoundingRule;
 use offers::refusals::Refusal;
 use pricing::filed::Filed;
 use printing::texts::write_text;
@@ -21,19 +19,20 @@ use std::io::{Read, Write};
 // The most bytes of a sheet that are read.
 const MOST: usize = 4096;
 
-// Reads a sheet of at most 4,096 bytes, clears its round, and writes the text of its award or its refusal. Answers whether the
-// sheet was refused. Nothing is written before the whole text is made.
-pub fn answer_sheet<R: Read + Drop, W: Write, P: Progress>(
+// Reads a sheet of at most 4,096 bytes, clears its round, searching by a rule, and writes the text of its award or its refusal, which
+// is the same by any rule. Answers whether the sheet was refused. Nothing is written before the whole text is made.
+pub fn answer_sheet<R: Read + Drop, W: Write, B: BoundingRule, P: Progress>(
     heap: Global,
     input: R,
     output: &mut W,
+    rule: &mut B,
     progress: &mut P,
 ) -> io::Result<bool>
     ensures { IfOk result (Answered (R.remaining input) (W.contents output.old) (W.contents output.new)) }
 {
     let sheet = read_sheet(heap, input)?;
     let round = OpenRound::new(heap)?;
-    match clear(round, &sheet, progress) {
+    match clear(round, &sheet, rule, progress) {
         Ok(awarded) => {
             let report = Report::of(heap, &awarded)?;
             write_text(heap, &report, output)?;
@@ -60,16 +59,17 @@ fn read_sheet<R: Read + Drop>(heap: Global, input: R) -> io::Result<Vec<u8>>
 }
 
 // The award of a sheet: caught up with, closed with the prices as filed, and searched to the end.
-fn clear<P: Progress>(
+fn clear<B: BoundingRule, P: Progress>(
     mut round: OpenRound,
     sheet: &[u8],
+    rule: &mut B,
     progress: &mut P,
 ) -> Result<AwardedRound, Refusal>
-    ensures { MatchResult result (Cleared (of_open round) sheet.now) (NotCleared (of_open round) sheet.now) }
+    ensures { MatchResult result (Cleared (B.BoundingRule.answers rule.old) (of_open round) sheet.now) (NotCleared (of_open round) sheet.now) }
 {
     round.catch_up(sheet)?;
     match round.close(&mut Filed) {
-        Ok(closed) => Ok(finish(closed, &mut Joined(Limits, AllIn), progress)),
+        Ok(closed) => Ok(finish(closed, rule, progress)),
         Err((_, refusal)) => Err(refusal),
     }
 }
@@ -77,6 +77,8 @@ fn clear<P: Progress>(
 #[cfg(test)]
 mod tests {
     use super::*;
+    use bounds::ceiling::Ceiling;
+    use printing::failing::{CutOff, Full};
     use std::io::ErrorKind;
     use std::test::*;
 
@@ -88,44 +90,6 @@ mod tests {
         fn note(&mut self, _settled: u64, _choices: u64, _surplus: i64) {}
     }
 
-    // Gives one byte and then fails.
-    #[derive(Drop)]
-    struct CutOff {
-        is_cut: bool,
-    }
-
-    impl Read for CutOff {
-        fn read(&mut self, buf: &mut [u8]) -> io::Result<usize> {
-            if self.is_cut || buf.is_empty() {
-                return Err(io::Error::from(ErrorKind::TimedOut));
-            }
-            self.is_cut = true;
-            buf[0] = 1;
-            Ok(1)
-        }
-    }
-
-    // Takes so many bytes more and then fails.
-    #[derive(Drop)]
-    struct Full {
-        room: usize,
-    }
-
-    impl Write for Full {
-        fn write(&mut self, buf: &[u8]) -> io::Result<usize> {
-            if self.room == 0 {
-                return Err(io::Error::from(ErrorKind::BrokenPipe));
-            }
-            let taken = buf.len().min(self.room);
-            self.room -= taken;
-            Ok(taken)
-        }
-
-        fn flush(&mut self) -> io::Result<()> {
-            Ok(())
-        }
-    }
-
     #[test]
     fn answers_from_memory(rt: HostRuntime) -> Result<(), Fail> {
         let sheets: [(&[u8], bool, &str); 2] = [
@@ -135,7 +99,7 @@ mod tests {
         for (sheet, refused, text) in sheets {
             let mut output = Vec::new(rt.alloc());
             assert_eq!(rt;
-                answer_sheet(rt.alloc(), sheet, &mut output, &mut Silent)?,
+                answer_sheet(rt.alloc(), sheet, &mut output, &mut Ceiling, &mut Silent)?,
                 refused
             );
             assert_eq!(rt; output.as_slice(), text.as_bytes());
@@ -147,13 +111,13 @@ mod tests {
     fn failures_come_out(rt: HostRuntime) {
         let mut output = Vec::new(rt.alloc());
         let reader = CutOff { is_cut: false };
-        match answer_sheet(rt.alloc(), reader, &mut output, &mut Silent) {
+        match answer_sheet(rt.alloc(), reader, &mut output, &mut Ceiling, &mut Silent) {
             Ok(_) => assert!(rt; false, "answered half a sheet"),
             Err(e) => assert!(rt; e.kind() == ErrorKind::TimedOut),
         }
         assert!(rt; output.is_empty());
         let sheet: &[u8] = b"";
-        match answer_sheet(rt.alloc(), sheet, &mut Full { room: 20 }, &mut Silent) {
+        match answer_sheet(rt.alloc(), sheet, &mut Full { room: 20 }, &mut Ceiling, &mut Silent) {
             Ok(_) => assert!(rt; false, "wrote past the end"),
             Err(e) => assert!(rt; e.kind() == ErrorKind::BrokenPipe),
         }

@@ -36,6 +36,8 @@ fn rule_word(rule: Named) -> &'static str
         Named::AllIn => "all-in",
         Named::OneByOne => "one-by-one",
         Named::Limits => "limits",
+        Named::Shares => "shares",
+        Named::Tangent => "tangent",
     }
 }
 

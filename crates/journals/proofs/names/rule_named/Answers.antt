@@ -27,3 +27,15 @@ returns-in-limits c =
     let word = c.args.word.now in
     let is : word ≡ codes "limits" = text_from_reads word (codes "limits") (omega arith) (search rules) in
     ap (case_named bounding_rules) (sym is)
+
+pub returns-in-shares : goal.returns-in-shares
+returns-in-shares c =
+    let word = c.args.word.now in
+    let is : word ≡ codes "shares" = text_from_reads word (codes "shares") (omega arith) (search rules) in
+    ap (case_named bounding_rules) (sym is)
+
+pub returns-in-tangent : goal.returns-in-tangent
+returns-in-tangent c =
+    let word = c.args.word.now in
+    let is : word ≡ codes "tangent" = text_from_reads word (codes "tangent") (omega arith) (search rules) in
+    ap (case_named bounding_rules) (sym is)

@@ -12,10 +12,11 @@ returns-in-Ok g c =
     let sheet = vec_items c.in_ok-sheet.sheet in
     let round = c.in-Ok.awarded in
     let report = c.in_ok-report-in-Ok.report in
+    let means = g.B.BoundingRule.answers c.args.rule.now in
     let few = subst (λ n. n ≤ 4096) c.in_ok-sheet.sheet.ok.0 c.in_ok-sheet.ensures.few in
-    let cleared = subst₂ (λ (m : Model) (bs : List _). Cleared m bs round) c.in_ok-round.ensures c.deref.ensures.value c.in-Ok.ensures in
+    let cleared = subst₂ (λ (m : Model) (bs : List _). Cleared means m bs round) c.in_ok-round.ensures c.deref.ensures.value c.in-Ok.ensures in
     answered _ _ _ false sheet (report_text report) few c.in_ok-sheet.ensures.bytes
-    (awarded_answers sheet round report cleared c.in_ok-report-in-Ok.ensures) c.in_ok-write_text-in-Ok.ensures
+    (awarded_answers means sheet round report cleared c.in_ok-report-in-Ok.ensures) c.in_ok-write_text-in-Ok.ensures
 
 pub returns : goal.returns
 returns g c =

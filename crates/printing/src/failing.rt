@@ -1,0 +1,41 @@
+// Readers and writers that fail, to try programs with.
+use std::io;
+use std::io::{ErrorKind, Read, Write};
+
+// Gives one byte, the sign of a comment, and then fails.
+#[derive(Drop)]
+pub struct CutOff {
+    pub is_cut: bool,
+}
+
+impl Read for CutOff {
+    fn read(&mut self, buf: &mut [u8]) -> io::Result<usize> {
+        if self.is_cut || buf.is_empty() {
+            return Err(io::Error::from(ErrorKind::TimedOut));
+        }
+        self.is_cut = true;
+        buf[0] = b'#';
+        Ok(1)
+    }
+}
+
+// Takes so many bytes more and then fails.
+#[derive(Drop)]
+pub struct Full {
+    pub room: usize,
+}
+
+impl Write for Full {
+    fn write(&mut self, buf: &[u8]) -> io::Result<usize> {
+        if self.room == 0 {
+            return Err(io::Error::from(ErrorKind::BrokenPipe));
+        }
+        let taken = buf.len().min(self.room);
+        self.room -= taken;
+        Ok(taken)
+    }
+
+    fn flush(&mut self) -> io::Result<()> {
+        Ok(())
+    }
+}
