@@ -1,2 +1,4 @@
+pub mod Cleared
 pub mod Digits
+pub mod Joins
 pub mod Supplies

@@ -5,6 +5,7 @@ pub mod Caps
 pub mod Costs
 pub mod Parts
 pub mod Gains
+pub mod Live
 pub mod Chains
 pub mod Splits
 pub mod Tangents

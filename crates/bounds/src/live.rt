@@ -1,27 +1,122 @@
 // Which free packages of a block count: those that could be taken with the fixed ones. No lawful choice of the block takes another.
-ghost use Rattle.std.specs.Prelude.{◌≡◌};
+ghost use Rattle.std.specs.Prelude.{◌≡◌, ◌+◌, ◌≤◌, true, false, nat_le, slice_index_or};
+ghost use Rattle.offers.specs.Marks.{sort_byte};
+ghost use Rattle.offers.specs.Tables.{package_layout};
 ghost use Rattle.clearing.specs.Choices.{taken};
 ghost use Rattle.clearing.specs.Lawful.{view};
+ghost use Rattle.clearing.specs.Ranges.{each, fits, package_fits};
+ghost use Rattle.clearing.specs.Tallies.{row};
 ghost use Rattle.bounds.specs.Blocks.{span, InDocket};
 ghost use Rattle.bounds.specs.Rules.{live_ones};
+ghost use Rattle.bounds.specs.Live.{cleared, head, needs, differs, tightest, room};
 
 use crate::blocks::Block;
 use crate::limits::stands;
-use clearing::dockets::Docket;
+use clearing::dockets::{Docket, PricedPackage};
 use clearing::tallies::Tally;
+use offers::marks::Sort;
+use offers::records::Package;
+
+// More than the packages of any docket have in a zone.
+const UNLIMITED: u64 = 1_000_000_000_000;
 
 // The choice that takes just them.
 pub(crate) fn live_choice(docket: &Docket, block: Block) -> u64
     ensures { InDocket (view docket.now) (span block) → taken docket.now.packages.list.items result ≡ live_ones (view docket.now) (span block) }
 {
+    let fixed = Tally::of(docket, block.first);
     let possible = Tally::of(docket, block.last());
+    if !stands(docket, &fixed, &possible) {
+        return 0;
+    }
+    let met = met(docket, &possible);
+    let apart = apart(docket, &heads(docket, &fixed));
+    let interconnection = tightest(docket, Sort::Interconnection);
+    let export = tightest(docket, Sort::Export);
     let mut live = 0u64;
-    for digit in 0..block.free {
-        let one = 1u64 << digit;
-        let with_it = Tally::of(docket, block.first + one);
-        if stands(docket, &with_it, &possible) {
-            live += one;
+    for (place, package) in docket.packages.list.iter().enumerate() {
+        let number = package.number as usize;
+        if place < block.free as usize
+            && met[number]
+            && apart[number]
+            && has_room(&interconnection, &export, &fixed, &package.record)
+        {
+            live += 1u64 << place;
         }
     }
     live
+}
+
+// By offer number: is each package possible that one of this number needs?
+fn met(docket: &Docket, possible: &Tally) -> [bool; 41]
+    ensures { result ≡ row (cleared (λ p. p.dependent) (needs possible.now.takes) docket.now.pairs.list.items) 0 41 }
+{
+    let mut met = [true; 41];
+    for pair in docket.pairs.list.iter() {
+        if !possible.takes[pair.needed as usize] {
+            met[pair.dependent as usize] = false;
+        }
+    }
+    met
+}
+
+// Of each group the greatest member that is taken, 0 where none is; where the taken ones keep the rule of groups it is the only one.
+fn heads(docket: &Docket, taken: &Tally) -> [u8; 16]
+    ensures { result ≡ row (head taken.now.takes docket.now.exclusions.list.items) 1 16 }
+{
+    let mut heads = [0u8; 16];
+    for exclusion in docket.exclusions.list.iter() {
+        let group = exclusion.group as usize - 1;
+        if taken.takes[exclusion.member as usize] {
+            heads[group] = heads[group].max(exclusion.member);
+        }
+    }
+    heads
+}
+
+// By offer number: does a package of this number differ from no head of its groups?
+fn apart(docket: &Docket, heads: &[u8; 16]) -> [bool; 41]
+    ensures { result ≡ row (cleared (λ e. e.member) (differs heads.now) docket.now.exclusions.list.items) 0 41 }
+{
+    let mut apart = [true; 41];
+    for exclusion in docket.exclusions.list.iter() {
+        let head = heads[exclusion.group as usize - 1];
+        if head != 0 && head != exclusion.member {
+            apart[exclusion.member as usize] = false;
+        }
+    }
+    apart
+}
+
+// Of each zone the least amount of its limits of a sort.
+fn tightest(docket: &Docket, sort: Sort) -> [u64; 16]
+    ensures { result ≡ row (tightest (sort_byte sort) docket.now.limits.list.items) 1 16 }
+{
+    let mut least = [UNLIMITED; 16];
+    for limit in docket.limits.list.iter() {
+        if limit.is_on(sort) {
+            let zone = limit.zone as usize - 1;
+            least[zone] = least[zone].min(limit.amount as u64);
+        }
+    }
+    least
+}
+
+// Whether the zones of a package have room for it beside the taken ones.
+fn has_room(
+    interconnection: &[u64; 16],
+    export: &[u64; 16],
+    taken: &Tally,
+    package: &Package,
+) -> bool
+    requires fits { fits package_layout «package».now ≡ true }
+    requires nameplate { each (λ n. nat_le n 400000000) taken.now.nameplate ≡ true }
+    requires export { each (λ n. nat_le n 400000000) taken.now.export ≡ true }
+    ensures { result ≡ room interconnection.now export.now taken.now «package».now }
+{
+    let from = package.interconnection_zone as usize - 1;
+    let to = package.export_zone as usize - 1;
+    package.unqualified != 1
+        || taken.nameplate[from] + package.nameplate as u64 <= interconnection[from]
+            && taken.export[to] + package.energy as u64 <= export[to]
 }

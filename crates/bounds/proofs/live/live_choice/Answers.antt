@@ -1,91 +1,137 @@
--- `live_choice`: each turn asks of one free package more whether it could be taken, and if so gives it its digit.
-use Rattle.std.proofs.Common.{◌≡◌, ℕ, ◌+◌, ◌*◌, ◌^◌, ◌<◌, ◌&&◌, List, [], ◌∷◌, ◌++◌, length, get_or, vec_items, sym, ap, ◌∙◌, add-one, arith}
-use Rattle.std.specs.Prelude.{◌==◌}
+-- `live_choice`: where the fixed packages keep the rules, each turn gives one free package more its digit, if the passes say that it could be taken with them.
+use Rattle.std.proofs.Common.{◌≡◌, ℕ, ◌+◌, ◌*◌, ◌^◌, ◌<◌, ◌≤◌, Bool, true, false, List, [], ◌∷◌, ◌++◌, length, get_or, take, vec_items, sym, ap, ◌∙◌, ap₂, subst, add-one, arith}
+use Rattle.std.specs.List.{filter}
 use Rattle.std.proofs.Math.Nat.{pow-succ'}
-use Rattle.std.proofs.lemmas.Int.{ints}
 use Rattle.std.proofs.lemmas.Nat.{one_shl}
+use Rattle.std.proofs.lemmas.Bool.{and_from, and_left, and_right}
+use Rattle.std.proofs.lemmas.List.{get_or-take, length-take, take_all}
+use Rattle.offers.specs.declared.records.Exclusion.{Exclusion}
 use Rattle.clearing.specs.declared.dockets.PricedPackage.{PricedPackage}
-use Rattle.clearing.specs.declared.dockets.Docket.{Docket}
-use Rattle.clearing.specs.Choices.{taken, total, where_so, supplied, has_number}
+use Rattle.clearing.specs.Choices.{taken}
 use Rattle.clearing.specs.Lawful.{view}
+use Rattle.clearing.specs.Ranges.{package_fits}
 use Rattle.clearing.specs.Tallies.{row, tally_of}
+use Rattle.clearing.proofs.Fits.{each_getD}
 use Rattle.clearing.proofs.Held.{no_package}
 use Rattle.clearing.proofs.Ranged.{ranged_docket}
-use Rattle.clearing.proofs.Rows.{row_same}
-use Rattle.clearing.proofs.Tallying.{tally_same}
-use Rattle.bounds.specs.Blocks.{Span, span, InDocket}
-use Rattle.bounds.specs.Rules.{fixed, possible, joins}
-use Rattle.bounds.specs.Gains.{More, alone_more}
+use Rattle.clearing.proofs.Takings.{taken-bounded}
+use Rattle.clearing.proofs.Tallying.{Bounded}
+use Rattle.bounds.specs.Blocks.{span}
+use Rattle.bounds.specs.Rules.{fixed, possible, free_ones, joins}
+use Rattle.bounds.specs.Live.{cleared, differs, tightest, room}
 use Rattle.bounds.specs.Splits.{taken_none}
 use Rattle.bounds.proofs.Digits.{taken_with, kept-yes, kept-no}
+use Rattle.bounds.proofs.Joins.{joins-passed, none-joins}
 use Rattle.bounds.proofs.live.live_choice.Goals as goal
-use Rattle.bounds.proofs.live.live_choice.Goals.{then-stands, else-stands}
+use Rattle.bounds.proofs.live.live_choice.Goals.{then-place-block+then-met-number+then-apart-number+then-has_room, else-place-block, else-place-block-via-then-place-block+then-met-number+then-apart-number+else-has_room, else-place-block-via-then-place-block+then-met-number+else-apart-number, else-place-block-via-then-place-block+else-met-number, else-place-block-via-else-place-block}
 
-module _ (p : PricedPackage) (xs ys : List PricedPackage) (more : More p xs ys) where
-  -- amounts of packages with one more among them are what they are with it first
-  more-row : (f : ℕ → PricedPackage → ℕ) (n count : ℕ) → row (λ m. total (f m) ys) n count ≡ row (λ m. total (f m) (p ∷ xs)) n count
-  more-row f n count =
-      row_same (λ m. total (f m) ys) (λ m. total (f m) (p ∷ xs)) n count (λ m h. omega (arith, more.amount (f m)))
+module _ (test : PricedPackage → Bool) (ps : List PricedPackage) (k i : ℕ) (inside : i < length ps) where
+  -- the package at the place
+  abbrev here : PricedPackage
+  here = get_or ps i no_package
 
-  -- so the packages come to the same
-  more-tally : tally_of ys ≡ tally_of (p ∷ xs)
-  more-tally =
-      tally_same (tally_of ys) (tally_of (p ∷ xs))
-      (row_same (λ n. has_number n ys) (λ n. has_number n (p ∷ xs)) 0 41 (λ n h. more.among n))
-      (more-row (λ m q. supplied m q.«record») 1 5)
-      (more-row (λ m q. where_so (q.«record».date == 1) (supplied m q.«record»)) 1 5)
-      (more-row (λ m q. where_so (q.«record».date == 2) (supplied m q.«record»)) 1 5)
-      (more-row (λ zone q. where_so (q.«record».unqualified == 1 && q.«record».interconnection_zone == zone) q.«record».nameplate) 1 16)
-      (more-row (λ zone q. where_so (q.«record».unqualified == 1 && q.«record».export_zone == zone) q.«record».energy) 1 16)
-      (omega (arith, ints, more.price))
+  -- of the first so many, where it is one of them
+  among-first : i < k → i < length (take k ps)
+  among-first free = simp length-take (omega arith)
 
--- the test of one free package's tally is that of the package
-module _ (d : Docket) (b : Span) (block : InDocket (view d) b) (i : ℕ) (free : i < b.free) where
-  abbrev one_there : PricedPackage
-  one_there = get_or (vec_items d.packages.list) i no_package
+  -- it is kept if it passes
+  kept-there : i < k → test here ≡ true → filter test (take (i + 1) (take k ps)) ≡ filter test (take i (take k ps)) ++ here ∷ []
+  kept-there free passes =
+      let same = get_or-take k ps i no_package free in
+      kept-yes test (take k ps) i no_package (among-first free) (ap test same ∙ passes)
+      ∙ ap (λ q. filter test (take i (take k ps)) ++ q ∷ []) same
 
-  with_one : tally_of (taken (vec_items d.packages.list) (b.first + 2 ^ i)) ≡ tally_of (one_there ∷ fixed (view d) b)
-  with_one = more-tally one_there _ _ (alone_more (view d) (ranged_docket d) b block i free)
+  -- and not if it does not
+  kept-not : i < k → test here ≡ false → filter test (take (i + 1) (take k ps)) ≡ filter test (take i (take k ps))
+  kept-not free fails = kept-no test (take k ps) i no_package (among-first free) (ap test (get_or-take k ps i no_package free) ∙ fails)
 
-pub loop-digit-init : goal.loop-digit-init
-loop-digit-init c = record { bound = omega arith; value = λ block. taken_none (vec_items c.args.docket.now.packages.list) }
+  -- nor if it is none of them
+  kept-past : k ≤ i → filter test (take (i + 1) (take k ps)) ≡ filter test (take i (take k ps))
+  kept-past past =
+      let few : length (take k ps) ≤ i = simp length-take (omega arith) in
+      let more : length (take k ps) ≤ i + 1 = simp length-take (omega arith) in
+      ap (filter test) (take_all (i + 1) (take k ps) more ∙ sym (take_all i (take k ps) few))
 
-pub loop-digit-preserved : goal.loop-digit-preserved
-loop-digit-preserved c =
+pub returns-then-not-stands : goal.returns-then-not-stands
+returns-then-not-stands c block =
     let d = c.args.docket.now in
     let v = view d in
     let b = span c.args.block in
-    let i = c.loop-digit.digit in
+    let others = c.of-possible.ensures ∙ ap (λ n. tally_of (taken v.packages n)) c.last.ensures in
+    taken_none v.packages
+    ∙ sym (none-joins d (fixed v b) (possible v b) (sym (c.stands.ensures (fixed v b) (possible v b) c.of-fixed.ensures others) ∙ c.if-not-stands.true) (free_ones v b))
+
+pub loop-place-init : goal.loop-place-init
+loop-place-init c = record { bound = omega arith; value = λ block. taken_none (vec_items c.args.docket.now.packages.list) }
+
+pub has_room-requires-clause-nameplate : goal.has_room-requires-clause-nameplate
+has_room-requires-clause-nameplate c =
+    (subst (Bounded 400000000) (sym c.of-fixed.ensures) (taken-bounded c.args.docket.now c.args.block.first)).nameplate
+
+pub has_room-requires-clause-export : goal.has_room-requires-clause-export
+has_room-requires-clause-export c =
+    (subst (Bounded 400000000) (sym c.of-fixed.ensures) (taken-bounded c.args.docket.now c.args.block.first)).export
+
+pub loop-place-preserved : goal.loop-place-preserved
+loop-place-preserved c =
+    let d = c.args.docket.now in
+    let v = view d in
+    let b = span c.args.block in
     let ps = vec_items d.packages.list in
     let test = joins v (fixed v b) (possible v b) in
-    let small : i < 64 = omega (arith, c.args.block.few) in
-    let twice = pow-succ' 2 i in
+    let held = c.deref-package-items.ensures.value in
+    let i = c.loop-place.place in
+    let before = c.loop-place.invariant in
+    let inside : i < length ps = omega (arith, c.loop-place-test.true, ap length held) in
+    let small : i < 64 = omega (arith, inside, (ranged_docket d).few_packages) in
     let shl = one_shl i 64 small in
-    let free : i < b.free = omega arith in
-    let next : 2 ^ (i + 1) ≡ 2 * 2 ^ i = rw (add-one i) twice in
-    let says : InDocket v b → c.stands.result ≡ test (get_or ps i no_package) =
-    λ block. c.stands.ensures (get_or ps i no_package ∷ fixed v b) (possible v b)
-    (c.of-with_it.ensures ∙ ap (λ n. tally_of (taken ps (b.first + n))) shl ∙ with_one d b block i free)
-    (c.of-possible.ensures ∙ ap (λ n. tally_of (taken ps n)) c.last.ensures) in
-    elim c.if-stands.branch [
-      | then-stands w ↦
-          let live : c.if-stands.live ≡ c.loop-digit.live + 2 ^ i = omega (arith, w.live-is, shl) in
+    let next : 2 ^ (i + 1) ≡ 2 * 2 ^ i = rw (add-one i) (pow-succ' 2 i) in
+    let p = get_or ps i no_package in
+    let same = ap (λ qs. get_or qs i no_package) held in
+    let others = c.of-possible.ensures ∙ ap (λ n. tally_of (taken ps n)) c.last.ensures in
+    let bounded = subst (Bounded 400000000) (sym c.of-fixed.ensures) (taken-bounded d c.args.block.first) in
+    let says =
+    joins-passed d (fixed v b) (possible v b) c.of-fixed.result c.of-possible.result c.of-fixed.ensures others bounded
+    (sym (c.stands.ensures (fixed v b) (possible v b) c.of-fixed.ensures others) ∙ c.if-not-stands.false) p
+    (each_getD package_fits ps i no_package inside d.packages_fit) in
+    let xs = vec_items d.exclusions.list in
+    let ls = vec_items d.limits.list in
+    let from = row (tightest 1 ls) 1 16 in
+    let to = row (tightest 2 ls) 1 16 in
+    let met = ap₂ (λ tests (q : PricedPackage). get_or tests q.number false) c.met-met.ensures same in
+    let apart =
+    ap₂ (λ tests (q : PricedPackage). get_or tests q.number false)
+    (c.apart-apart.ensures ∙ ap (λ hs. row (cleared (λ (e : Exclusion). e.member) (differs hs) xs) 0 41) c.heads.ensures) same in
+    let rooms =
+    ap₂ (λ one other. room one other c.of-fixed.result (get_or c.deref-package-items.result.now i no_package).«record») c.tightest-interconnection.ensures c.tightest-export.ensures
+    ∙ ap (λ (q : PricedPackage). room from to c.of-fixed.result q.«record») same in
+    elim c.if-place-block.branch [
+      | then-place-block+then-met-number+then-apart-number+then-has_room w ↦
+          let sum : c.if-place-block.live ≡ c.loop-place.live + 2 ^ i = omega (arith, w.live-is, shl) in
+          let joined : test p ≡ true =
+          sym says
+          ∙ and_from _ _ (sym met ∙ w.if-met-number.true) (and_from _ _ (sym apart ∙ w.if-apart-number.true) (sym (w.has_room.ensures ∙ rooms) ∙ w.if-has_room.true)) in
           record {
-            bound = omega (arith, live, next, c.loop-digit.invariant.bound);
+            bound = omega (arith, sum, next, before.bound);
             value = λ block.
-                let inside : i < length ps = omega (arith, free, block.few) in
-                ap (taken ps) live
-                ∙ taken_with ps i c.loop-digit.live c.loop-digit.invariant.bound no_package inside
-                ∙ ap (λ xs. xs ++ get_or ps i no_package ∷ []) (c.loop-digit.invariant.value block)
-                ∙ sym (kept-yes test ps i no_package inside (sym (says block) ∙ w.if-stands.true));
+                ap (taken ps) sum
+                ∙ taken_with ps i c.loop-place.live before.bound no_package inside
+                ∙ ap (λ qs. qs ++ p ∷ []) (before.value block)
+                ∙ sym (kept-there test ps b.free i inside w.if-place-block.true joined);
           }
-      | else-stands w ↦
+      | else-place-block w ↦
+          let same_ones : filter test (take (i + 1) (take b.free ps)) ≡ filter test (take i (take b.free ps)) =
+          elim w.else-place-block.branch [
+            | else-place-block-via-then-place-block+then-met-number+then-apart-number+else-has_room w' ↦
+                kept-not test ps b.free i inside w'.if-place-block.true (sym says ∙ and_right _ _ (and_right _ _ (sym (w'.has_room.ensures ∙ rooms) ∙ w'.if-has_room.false)))
+            | else-place-block-via-then-place-block+then-met-number+else-apart-number w' ↦
+                kept-not test ps b.free i inside w'.if-place-block.true (sym says ∙ and_right _ _ (and_left _ _ (sym apart ∙ w'.if-apart-number.false)))
+            | else-place-block-via-then-place-block+else-met-number w' ↦
+                kept-not test ps b.free i inside w'.if-place-block.true (sym says ∙ and_left _ _ (sym met ∙ w'.if-met-number.false))
+            | else-place-block-via-else-place-block w' ↦ kept-past test ps b.free i inside w'.if-place-block.false
+          ] in
           record {
-            bound = omega (arith, w.live-is, next, c.loop-digit.invariant.bound);
-            value = λ block.
-                let inside : i < length ps = omega (arith, free, block.few) in
-                ap (taken ps) w.live-is
-                ∙ c.loop-digit.invariant.value block
-                ∙ sym (kept-no test ps i no_package inside (sym (says block) ∙ w.if-stands.false));
+            bound = omega (arith, w.live-is, next, before.bound);
+            value = λ block. ap (taken ps) w.live-is ∙ before.value block ∙ sym same_ones;
           }
     ]

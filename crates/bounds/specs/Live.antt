@@ -1,0 +1,39 @@
+-- What the passes over pairs, exclusions and limits find, that tells which packages could be taken with others. Assumes nothing.
+use Rattle.std.specs.Prelude.{ℕ, ◌+◌, ◌-◌, min, max, Bool, true, false, cond, not, ◌&&◌, ◌||◌, List, [], ◌∷◌, ◌==◌, nat_le, slice_index, slice_index_or}
+use Rattle.offers.specs.declared.records.Package.{Package}
+use Rattle.offers.specs.declared.records.Pair.{Pair}
+use Rattle.offers.specs.declared.records.Exclusion.{Exclusion}
+use Rattle.offers.specs.declared.records.Limit.{Limit}
+use Rattle.clearing.specs.declared.tallies.Tally.{Tally}
+use Rattle.clearing.specs.Choices.{where_so}
+use Rattle.clearing.specs.Judging.{implies}
+
+-- do all records of a key pass a test?
+abbrev pub cleared : {X : Type 0} → (X → ℕ) → (X → Bool) → List X → ℕ → Bool
+cleared key fine [] n = true
+cleared key fine (x ∷ xs) n = implies (key x == n) (fine x) && cleared key fine xs n
+
+-- is the needed package of a pair among those of a row?
+abbrev pub needs : List Bool → Pair → Bool
+needs takes p = slice_index_or takes p.needed false
+
+-- the greatest member of a group that is taken, 0 where none is
+abbrev pub head : List Bool → List Exclusion → ℕ → ℕ
+head takes [] group = 0
+head takes (e ∷ es) group = max (where_so (e.group == group && slice_index_or takes e.member false) e.member) (head takes es group)
+
+-- does the head of an exclusion's group differ from no member but itself?
+abbrev pub differs : List ℕ → Exclusion → Bool
+differs heads e = slice_index heads (e.group - 1) == 0 || slice_index heads (e.group - 1) == e.member
+
+-- the least amount of a zone's limits of a sort; where none is set, more than any load
+abbrev pub tightest : ℕ → List Limit → ℕ → ℕ
+tightest sort [] zone = 1000000000000
+tightest sort (l ∷ ls) zone = cond (l.sort == sort && l.zone == zone) (min l.amount (tightest sort ls zone)) (tightest sort ls zone)
+
+-- have the zones of a package room for it beside what is taken?
+abbrev pub room : List ℕ → List ℕ → Tally → Package → Bool
+room interconnection export t p =
+    not (p.unqualified == 1)
+    || (nat_le (slice_index t.nameplate (p.interconnection_zone - 1) + p.nameplate) (slice_index interconnection (p.interconnection_zone - 1))
+    && nat_le (slice_index t.export (p.export_zone - 1) + p.energy) (slice_index export (p.export_zone - 1)))
