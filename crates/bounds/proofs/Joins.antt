@@ -23,7 +23,7 @@ use Rattle.clearing.proofs.RowRules.{row_at, all_both}
 use Rattle.clearing.proofs.Rows.{getD_row}
 use Rattle.clearing.proofs.Tallying.{Bounded}
 use Rattle.bounds.specs.Rules.{joins}
-use Rattle.bounds.specs.Live.{cleared, needs, head, differs, tightest, room}
+use Rattle.bounds.specs.Live.{cleared, needs, head, unopposed, tightest, room}
 use Rattle.bounds.proofs.Cleared.{cleared_decides}
 
 -- a test passed by every element, as a fact of every element
@@ -128,8 +128,8 @@ module _ (T : List PricedPackage) (t : Tally) (counted : t ≡ tally_of T) (xs :
   head-at : (e : Exclusion) → ExclusionRanges e → get_or heads (e.group - 1) 0 ≡ head t.takes xs e.group
   head-at e r = row_at (head t.takes xs) 16 e.group r.group_least r.group
 
-  -- a taken member of a group is the same as one that differs from none that stands for it
-  same_as : (e f : Exclusion) → ExclusionRanges e → Known f → e.group ≡ f.group → differs heads e ≡ true → has_number f.member T ≡ true → e.member ≡ f.member
+  -- a taken member of a group is the same as one that no other stands before
+  same_as : (e f : Exclusion) → ExclusionRanges e → Known f → e.group ≡ f.group → unopposed heads e ≡ true → has_number f.member T ≡ true → e.member ≡ f.member
   same_as e f r k same fine has =
       let taken = takes_is T t counted f.member k.ranges.member ∙ has in
       let at = head-at e r ∙ ap (head t.takes xs) same in
@@ -144,7 +144,7 @@ module _ (T : List PricedPackage) (t : Tally) (counted : t ≡ tally_of T) (xs :
       (or_cases (eqb (get_or heads (e.group - 1) 0) 0) (eqb (get_or heads (e.group - 1) 0) e.member) fine)
 
   -- the rule of groups
-  pub groups-joined : (p : PricedPackage) → cleared (λ (e : Exclusion). e.member) (differs heads) xs p.number ≡ groups_apart xs (p ∷ T)
+  pub groups-joined : (p : PricedPackage) → cleared (λ (e : Exclusion). e.member) (unopposed heads) xs p.number ≡ groups_apart xs (p ∷ T)
   groups-joined p =
       same_from_decides _ _
       (Decides-like _
@@ -171,7 +171,7 @@ module _ (T : List PricedPackage) (t : Tally) (counted : t ≡ tally_of T) (xs :
       (λ none. or_left _ _ (eq-eqb _ 0 (head-at e r ∙ none)))
       (λ it. or_right _ _ (eq-eqb _ e.member (head-at e r ∙ it)))
       stands) xs ((all_both _ _ xs).1 (rule, ranged)))
-      (cleared_decides (λ (e : Exclusion). e.member) (differs heads) p.number xs))
+      (cleared_decides (λ (e : Exclusion). e.member) (unopposed heads) p.number xs))
       (groups_tell xs (p ∷ T))
 
 module _ (sort zone n : ℕ) where
@@ -261,7 +261,7 @@ module _ (d : Docket) (T W : List PricedPackage) where
   abbrev pub passed : Tally → Tally → PricedPackage → Bool
   passed t w p =
       get_or (row (cleared (λ (q : Pair). q.dependent) (needs w.takes) (vec_items d.pairs.list)) 0 41) p.number false
-      && (get_or (row (cleared (λ (e : Exclusion). e.member) (differs (row (head t.takes (vec_items d.exclusions.list)) 1 16)) (vec_items d.exclusions.list)) 0 41) p.number false
+      && (get_or (row (cleared (λ (e : Exclusion). e.member) (unopposed (row (head t.takes (vec_items d.exclusions.list)) 1 16)) (vec_items d.exclusions.list)) 0 41) p.number false
       && room (row (tightest 1 (vec_items d.limits.list)) 1 16) (row (tightest 2 (vec_items d.limits.list)) 1 16) t p.«record»)
 
   -- where the others keep the rules, that is whether it could be taken with them
@@ -274,7 +274,7 @@ module _ (d : Docket) (T W : List PricedPackage) where
       ap₂ (λ a b. a && b)
       (test-at (cleared (λ (q : Pair). q.dependent) (needs w.takes) (vec_items d.pairs.list)) p.number r.number ∙ pairs-joined T p W w others (vec_items d.pairs.list) d.pairs_fit one.0)
       (ap₂ (λ a b. a && b)
-      (test-at (cleared (λ (e : Exclusion). e.member) (differs (row (head t.takes (vec_items d.exclusions.list)) 1 16)) (vec_items d.exclusions.list)) p.number r.number ∙ groups-joined T t counted (vec_items d.exclusions.list) d.exclusions_fit two.0 p)
+      (test-at (cleared (λ (e : Exclusion). e.member) (unopposed (row (head t.takes (vec_items d.exclusions.list)) 1 16)) (vec_items d.exclusions.list)) p.number r.number ∙ groups-joined T t counted (vec_items d.exclusions.list) d.exclusions_fit two.0 p)
       (zones-joined T t counted bounded (vec_items d.limits.list) two.1 p r.of_record))
 
   -- where a package could be taken with them, they do

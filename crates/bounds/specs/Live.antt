@@ -22,9 +22,9 @@ abbrev pub head : List Bool → List Exclusion → ℕ → ℕ
 head takes [] group = 0
 head takes (e ∷ es) group = max (where_so (e.group == group && slice_index_or takes e.member false) e.member) (head takes es group)
 
--- does the head of an exclusion's group differ from no member but itself?
-abbrev pub differs : List ℕ → Exclusion → Bool
-differs heads e = slice_index heads (e.group - 1) == 0 || slice_index heads (e.group - 1) == e.member
+-- does no other member than an exclusion's own stand for its group?
+abbrev pub unopposed : List ℕ → Exclusion → Bool
+unopposed heads e = slice_index heads (e.group - 1) == 0 || slice_index heads (e.group - 1) == e.member
 
 -- the least amount of a zone's limits of a sort; where none is set, more than any load
 abbrev pub tightest : ℕ → List Limit → ℕ → ℕ

@@ -1,18 +1,18 @@
 // Which free packages of a block count: those that could be taken with the fixed ones. No lawful choice of the block takes another.
-ghost use Rattle.std.specs.Prelude.{◌≡◌, ◌+◌, ◌≤◌, true, false, nat_le, slice_index_or};
+ghost use Rattle.std.specs.Prelude.{◌≡◌, true, nat_le};
 ghost use Rattle.offers.specs.Marks.{sort_byte};
 ghost use Rattle.offers.specs.Tables.{package_layout};
 ghost use Rattle.clearing.specs.Choices.{taken};
 ghost use Rattle.clearing.specs.Lawful.{view};
-ghost use Rattle.clearing.specs.Ranges.{each, fits, package_fits};
+ghost use Rattle.clearing.specs.Ranges.{each, fits};
 ghost use Rattle.clearing.specs.Tallies.{row};
 ghost use Rattle.bounds.specs.Blocks.{span, InDocket};
 ghost use Rattle.bounds.specs.Rules.{live_ones};
-ghost use Rattle.bounds.specs.Live.{cleared, head, needs, differs, tightest, room};
+ghost use Rattle.bounds.specs.Live.{cleared, head, needs, unopposed, tightest, room};
 
 use crate::blocks::Block;
 use crate::limits::stands;
-use clearing::dockets::{Docket, PricedPackage};
+use clearing::dockets::Docket;
 use clearing::tallies::Tally;
 use offers::marks::Sort;
 use offers::records::Package;
@@ -74,9 +74,9 @@ fn heads(docket: &Docket, taken: &Tally) -> [u8; 16]
     heads
 }
 
-// By offer number: does a package of this number differ from no head of its groups?
+// By offer number: does no other member stand for a group of a package of this number?
 fn apart(docket: &Docket, heads: &[u8; 16]) -> [bool; 41]
-    ensures { result ≡ row (cleared (λ e. e.member) (differs heads.now) docket.now.exclusions.list.items) 0 41 }
+    ensures { result ≡ row (cleared (λ e. e.member) (unopposed heads.now) docket.now.exclusions.list.items) 0 41 }
 {
     let mut apart = [true; 41];
     for exclusion in docket.exclusions.list.iter() {

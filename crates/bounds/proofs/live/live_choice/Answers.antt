@@ -18,7 +18,7 @@ use Rattle.clearing.proofs.Takings.{taken-bounded}
 use Rattle.clearing.proofs.Tallying.{Bounded}
 use Rattle.bounds.specs.Blocks.{span}
 use Rattle.bounds.specs.Rules.{fixed, possible, free_ones, joins}
-use Rattle.bounds.specs.Live.{cleared, differs, tightest, room}
+use Rattle.bounds.specs.Live.{cleared, unopposed, tightest, room}
 use Rattle.bounds.specs.Splits.{taken_none}
 use Rattle.bounds.proofs.Digits.{taken_with, kept-yes, kept-no}
 use Rattle.bounds.proofs.Joins.{joins-passed, none-joins}
@@ -101,7 +101,7 @@ loop-place-preserved c =
     let met = ap₂ (λ tests (q : PricedPackage). get_or tests q.number false) c.met-met.ensures same in
     let apart =
     ap₂ (λ tests (q : PricedPackage). get_or tests q.number false)
-    (c.apart-apart.ensures ∙ ap (λ hs. row (cleared (λ (e : Exclusion). e.member) (differs hs) xs) 0 41) c.heads.ensures) same in
+    (c.apart-apart.ensures ∙ ap (λ hs. row (cleared (λ (e : Exclusion). e.member) (unopposed hs) xs) 0 41) c.heads.ensures) same in
     let rooms =
     ap₂ (λ one other. room one other c.of-fixed.result (get_or c.deref-package-items.result.now i no_package).«record») c.tightest-interconnection.ensures c.tightest-export.ensures
     ∙ ap (λ (q : PricedPackage). room from to c.of-fixed.result q.«record») same in
