@@ -2,16 +2,12 @@
 #![tactic(auto)]
 
 use anyhow::bail;
-use bounds::all_in::AllIn;
-use bounds::joined::Joined;
-use bounds::limits::Limits;
-use bounds::shares::Shares;
-use bounds::tangent::Tangent;
 use clap::{Arg, ArgAction, Command};
 use printing::meters::Meter;
 use reports::answering::answer_sheet;
+use reports::searching::Rules;
 use std::alloc::Global;
-use std::{env, io};
+use std::env;
 
 // What the command line may say.
 fn command<'a>(heap: Global) -> Result<Command<'a>, clap::Error> {
@@ -28,26 +24,14 @@ fn command<'a>(heap: Global) -> Result<Command<'a>, clap::Error> {
     )
 }
 
-// Answers the sheet on standard input, and whether it was refused.
-fn answer(rt: &HostRuntime, quick: bool) -> io::Result<bool> {
-    let (heap, input) = (rt.alloc(), rt.stdin());
-    let mut meter = Meter::of_search(rt);
-    if quick {
-        let mut rule = Joined(Limits, Joined(AllIn, Joined(Shares, Tangent)));
-        answer_sheet(heap, input, &mut rt.stdout(), &mut rule, &mut meter)
-    } else {
-        let mut rule = Joined(Limits, AllIn);
-        answer_sheet(heap, input, &mut rt.stdout(), &mut rule, &mut meter)
-    }
-}
-
 fn main(rt: HostRuntime) -> anyhow::Result<()> {
     let mut words = Vec::new(rt.alloc());
     for word in env::args(&rt)? {
         words.push(word)?;
     }
-    let quick = match command(rt.alloc())?.try_get_matches_from(&words) {
-        Ok(matches) => matches.get_flag("quick"),
+    let rules = match command(rt.alloc())?.try_get_matches_from(&words) {
+        Ok(matches) if matches.get_flag("quick") => Rules::Quick,
+        Ok(_) => Rules::Stated,
         Err(e) => {
             e.print(&rt)?;
             if e.use_stderr() {
@@ -56,7 +40,8 @@ fn main(rt: HostRuntime) -> anyhow::Result<()> {
             return Ok(());
         }
     };
-    if answer(&rt, quick)? {
+    let mut meter = Meter::of_search(&rt);
+    if answer_sheet(rt.alloc(), rt.stdin(), &mut rt.stdout(), rules, &mut meter)? {
         bail!("the sheet is refused");
     }
     Ok(())

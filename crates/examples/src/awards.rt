@@ -149,8 +149,10 @@ fn bands_of_equal_price(rt: HostRuntime) -> Result<(), Fail> {
     check_award(&rt, requests, 2, 1, 33, &[4, 3, 0, 0, 3])
 }
 
-const ALL_JOINED: Joined<Limits, Joined<AllIn, Joined<Shares, Tangent>>> =
-    Joined(Limits, Joined(AllIn, Joined(Shares, Tangent)));
+const ALL_JOINED: Joined<Limits, Joined<AllIn, Joined<Shares, Tangent>>> = Joined(
+    Limits,
+    Joined(AllIn, Joined(Shares, Tangent)),
+);
 
 // The four-package round where package 3 needs 2, searched under a rule: it ends with the last of so many steps.
 fn check_steps<R: Abort + AllocGlobal, B: BoundingRule + Copy + Drop>(
@@ -190,7 +192,7 @@ fn check_rule<R: Abort + AllocGlobal, B: BoundingRule + Copy + Drop>(
     dated[2].date = 1;
     let rounds: [(&[Package], &[Offer], u64, i64); 7] = [
         (&packages, &[], 13, 123_500_000),
-        (&packages, &[excluded(1, 1), excluded(1, 3)], 14, 103_000_000),
+        (&packages, &[excluded(1), excluded(3)], 14, 103_000_000),
         (&packages, &[needs(3, 2)], 15, 118_500_000),
         (&limited, &[limit(1, 1, 50)], 5, 111_500_000),
         (&limited, &[limit(1, 1, 49)], 6, 80_500_000),
@@ -202,10 +204,7 @@ fn check_rule<R: Abort + AllocGlobal, B: BoundingRule + Copy + Drop>(
         requests.push(Request::Close(Filed))?;
         requests.push(Request::Search(rule, 1_000_000))?;
         requests.push(Request::ReadAward(row(rt.alloc(), 64)?))?;
-        let last = [
-            Told::Found(16, surplus),
-            Told::Awarded(choice, surplus),
-        ];
+        let last = [Told::Found(16, surplus), Told::Awarded(choice, surplus)];
         check_answers(rt, requests, &last)?;
     }
     Ok(())

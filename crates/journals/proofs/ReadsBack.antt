@@ -14,7 +14,8 @@ use Rattle.journals.specs.Lines.{Said, File, Withdraw, CatchUp, Close, Search, R
 use Rattle.journals.specs.Names.{kinds}
 use Rattle.journals.specs.Readers.{name_at}
 use Rattle.journals.specs.Texts.{behind, spaced, kind_word, kind_of, words_of, line_text, journal_text, Fits}
-use Rattle.journals.specs.Words.{words_in, lines_in, is_blank, is_word}
+use Rattle.journals.specs.Words.{words_in, ended, lines_in, is_blank, is_word}
+use Rattle.journals.proofs.Journaling.{ended_text}
 use Rattle.journals.proofs.ByteTexts.{bytes_at-words, bytes-words}
 use Rattle.journals.proofs.Decimals.{above_blank, number_at-decimal, sized-decimal, decimal-above, is_word-decimal}
 use Rattle.journals.proofs.Plain.{Words, Apart, split-front, split-joined}
@@ -140,9 +141,10 @@ lines_in-journal : (lines : List Said) → AllByRecursion Fits lines → lines_i
 lines_in-journal [] fit = refl
 lines_in-journal (s ∷ lines) fit =
     ap (λ text. lines_in text) (append_assoc (line_text s) (10 ∷ []) (journal_text lines))
-    ∙ (ap (map strip_carriage_return) (split-front printed is_line_end line-apart (line_text s) 10 (journal_text lines) (printed-line s fit.0) refl)
+    ∙ (ap ended (split-front printed is_line_end line-apart (line_text s) 10 (journal_text lines) (printed-line s fit.0) refl)
+    ∙ (ended_text (line_text s) is_line_end (journal_text lines)
     ∙ (ap (λ line. line ∷ lines_in (journal_text lines)) (strip-printed (line_text s) (printed-line s fit.0))
-    ∙ ap (λ rest. line_text s ∷ rest) (lines_in-journal lines fit.1)))
+    ∙ ap (λ rest. line_text s ∷ rest) (lines_in-journal lines fit.1))))
 
 journal_from-texts : (n : ℕ) (lines : List Said) → AllByRecursion Fits lines → journal_from n (map line_text lines ++ [] ∷ []) ≡ Ok lines
 unfolding said_by

@@ -1,5 +1,5 @@
 -- A journal's text as lines, and a line as words. Assumes nothing.
-use Rattle.std.specs.Prelude.{ℕ, Bool, true, false, ◌||◌, List, [], ◌∷◌, map, filter, ◌==◌, Some, None, Option}
+use Rattle.std.specs.Prelude.{ℕ, Bool, true, false, ◌||◌, List, [], ◌∷◌, filter, ◌==◌, Some, None, Option}
 use Rattle.std.specs.Borrow.{Bor}
 use Rattle.std.specs.List.{slice_split}
 use Rattle.std.specs.Str.Lines.{strip_carriage_return}
@@ -9,9 +9,20 @@ abbrev pub parts_in : (ℕ → Bool) → Option (Bor (List ℕ)) → List (List 
 parts_in separates None = []
 parts_in separates (Some text) = slice_split separates text.now
 
--- lines end with a byte 10, and a byte 13 before it is dropped
+-- parts that each end a line, without a byte 13 at their end; the last, which ends none, as it is
+abbrev pub ended : List (List ℕ) → List (List ℕ)
+ended [] = []
+ended (last ∷ []) = last ∷ []
+ended (line ∷ next ∷ lines) = strip_carriage_return line ∷ ended (next ∷ lines)
+
+-- lines end with a byte 10, and a byte 13 before it is dropped; what stands after the last byte 10 is a line too
 abbrev pub lines_in : List ℕ → List (List ℕ)
-lines_in text = map strip_carriage_return (slice_split (λ b. b == 10) text)
+lines_in text = ended (slice_split (λ b. b == 10) text)
+
+-- the lines of what is left of a text, where anything is
+abbrev pub lines_left : Option (Bor (List ℕ)) → List (List ℕ)
+lines_left None = []
+lines_left (Some text) = lines_in text.now
 
 -- what parts words: a space or a tab
 abbrev pub is_blank : ℕ → Bool

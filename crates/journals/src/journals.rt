@@ -1,9 +1,10 @@
 // A journal: its lines read into calls.
-ghost use Rattle.std.specs.Prelude.{◌≡◌, map, Some};
+ghost use Rattle.std.specs.Prelude.{◌≡◌, ◌<◌, ◌∷◌, IfSome, length, map, Some};
 ghost use Rattle.std.specs.Str.Lines.{strip_carriage_return};
 ghost use Rattle.journals.specs.declared.journals.JournalError.TheVariants as error;
 ghost use Rattle.journals.specs.Journals.{journal_in, ReadsJournal, ReadsLine};
 ghost use Rattle.journals.specs.Lines.{said, said_in};
+ghost use Rattle.journals.specs.Words.{lines_in, lines_left};
 
 use crate::lines::{Line, read_line};
 use crate::parts::split_once;
@@ -54,11 +55,24 @@ fn without_return(line: &[u8]) -> &[u8]
     }
 }
 
+// The first line of a text, and what is left after it, where the text has an end for it.
+#[tactic(auto, using(crate::proofs::Journaling::ended_text))]
+fn first_line(text: &[u8]) -> (&[u8], Option<&[u8]>)
+    ensures lines { lines_in text.now ≡ result.0.now ∷ lines_left result.1 }
+    ensures shorter { IfSome result.1 (λ rest. length rest.now < length text.now) }
+{
+    let (line, rest) = split_once(text, b'\n');
+    match rest {
+        None => (line, None),
+        Some(after) => (without_return(line), Some(after)),
+    }
+}
+
 // What a line of this number says; none for one that is passed over.
 fn numbered(heap: Global, number: usize, line: &[u8]) -> Result<Option<Line>, JournalError>
-    ensures { ReadsLine number result (said_in (strip_carriage_return line.now)) }
+    ensures { ReadsLine number result (said_in line.now) }
 {
-    match read_line(heap, without_return(line)) {
+    match read_line(heap, line) {
         Ok(line) => Ok(line),
         Err(ReadError::OutOfMemory) => Err(JournalError::OutOfMemory),
         Err(ReadError::Wrong(wrong)) => Err(JournalError::Mistake(Mistake {
@@ -76,7 +90,7 @@ pub fn read_journal(heap: Global, text: &[u8]) -> Result<Vec<Line>, JournalError
     let mut number = 1;
     let mut rest = Some(text);
     while let Some(unread) = rest {
-        let (line, more) = split_once(unread, b'\n');
+        let (line, more) = first_line(unread);
         if let Some(line) = numbered(heap, number, line)? {
             lines.push(line)?;
         }
@@ -166,6 +180,7 @@ mod tests {
         check_lines(&rt, "", &[])?;
         check_lines(&rt, "\n\r\n \t\r\n# reopen\n#\n", &[])?;
         check_lines(&rt, "\treopen  \r\nreopen", &["reopen", "reopen"])?;
+        check_mistake(&rt, "reopen\r", "line 1: the first word names no call")?;
         check_lines(&rt, "award\n", &["award 64"])?;
         check_lines(&rt, "catch-up 0aFf\n", &["catch-up 0aff"])?;
         check_lines(

@@ -1,12 +1,12 @@
 // Laws of lines and answers.
 ghost use Rattle.journals.specs.Laws.{LinesReadBack, JournalsReadBack, SheetsShown};
 
-// The text of a line says just what was written, whatever the line is.
+// The text of a line says just what was written, of every line whose numbers fit their bytes.
 pub fn lines_read_back()
     ensures { LinesReadBack }
 {}
 
-// And so does a journal of lines.
+// And so does a journal of such lines, each ended by byte 10.
 pub fn journals_read_back()
     ensures { JournalsReadBack }
 {}

@@ -149,16 +149,16 @@ mod tests {
             Err(e) => assert!(rt; e.kind() == ErrorKind::TimedOut),
         }
         assert!(rt; output.is_empty());
-        for journal in ["award", "awrd"] {
-            match run_journal(
-                rt.alloc(),
-                journal.as_bytes(),
-                &mut Full { room: 20 },
-                &mut (),
-            ) {
+        for (journal, kept) in [
+            ("award", "not taken while open"),
+            ("awrd", "line 1: the first wo"),
+        ] {
+            let mut full = Full::new(rt.alloc(), 20);
+            match run_journal(rt.alloc(), journal.as_bytes(), &mut full, &mut ()) {
                 Ok(_) => assert!(rt; false, "wrote past the end"),
                 Err(e) => assert!(rt; e.kind() == ErrorKind::BrokenPipe),
             }
+            assert_eq!(rt; full.kept.as_slice(), kept.as_bytes());
         }
     }
 

@@ -1,4 +1,5 @@
 // Readers and writers that fail, to try programs with.
+use std::alloc::Global;
 use std::io;
 use std::io::{ErrorKind, Read, Write};
 
@@ -19,10 +20,20 @@ impl Read for CutOff {
     }
 }
 
-// Takes so many bytes more and then fails.
+// Takes so many bytes more, which it keeps, and then fails.
 #[derive(Drop)]
 pub struct Full {
     pub room: usize,
+    pub kept: Vec<u8>,
+}
+
+impl Full {
+    pub fn new(heap: Global, room: usize) -> Full {
+        Full {
+            room,
+            kept: Vec::new(heap),
+        }
+    }
 }
 
 impl Write for Full {
@@ -31,6 +42,7 @@ impl Write for Full {
             return Err(io::Error::from(ErrorKind::BrokenPipe));
         }
         let taken = buf.len().min(self.room);
+        self.kept.extend_from_slice(&buf[..taken])?;
         self.room -= taken;
         Ok(taken)
     }

@@ -8,8 +8,8 @@ use std::io::Eprint;
 // Of so many notes of a search one is said; a note comes every million steps.
 const SEARCH: u32 = 16;
 
-// Of so many calls of a run one is said.
-const RUN: u32 = 64;
+// Of so many calls of a run one is said; a call takes a million steps at most.
+const RUN: u32 = 20;
 
 // Counts notes, and says some of them.
 #[derive(Drop)]
@@ -37,7 +37,7 @@ impl<'a, R> Meter<'a, R> {
 
     // A meter of a run of calls.
     pub fn of_run(rt: &'a R) -> Meter<'a, R>
-        ensures each { result.each ≡ 64 }
+        ensures each { result.each ≡ 20 }
         ensures notes { result.notes ≡ 0 }
     {
         Meter {

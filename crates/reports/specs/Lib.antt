@@ -2,3 +2,5 @@ pub mod Reports
 pub mod Text
 pub mod Cleared
 pub mod Answering
+pub mod Searching
+pub mod Searches

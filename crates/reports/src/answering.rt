@@ -3,9 +3,10 @@ ghost use Rattle.std.specs.Prelude.{◌≡◌, ◌≤◌, IfOk, IfSome, MatchRes
 ghost use Rattle.rounds.specs.Views.{of_open};
 ghost use Rattle.reports.specs.Answering.{Answered};
 ghost use Rattle.reports.specs.Cleared.{Cleared, NotCleared};
+ghost use Rattle.reports.specs.Searching.{searching};
 
 use crate::report::{RefusedSheet, Report};
-use bounds::blocks::BoundingRule;
+use crate::searching::Rules;
 use offers::refusals::Refusal;
 use pricing::filed::Filed;
 use printing::texts::write_text;
@@ -19,20 +20,20 @@ use std::io::{Read, Write};
 // The most bytes of a sheet that are read.
 const MOST: usize = 4096;
 
-// Reads a sheet of at most 4,096 bytes, clears its round, searching by a rule, and writes the text of its award or its refusal, which
-// is the same by any rule. Answers whether the sheet was refused. Nothing is written before the whole text is made.
-pub fn answer_sheet<R: Read + Drop, W: Write, B: BoundingRule, P: Progress>(
+// Reads a sheet of at most 4,096 bytes, clears its round, searching by these rules, and writes the text of its award or its refusal,
+// which is the same by any. Answers whether the sheet was refused. Nothing is written before the whole text is made.
+pub fn answer_sheet<R: Read + Drop, W: Write, P: Progress>(
     heap: Global,
     input: R,
     output: &mut W,
-    rule: &mut B,
+    rules: Rules,
     progress: &mut P,
 ) -> io::Result<bool>
     ensures { IfOk result (Answered (R.remaining input) (W.contents output.old) (W.contents output.new)) }
 {
     let sheet = read_sheet(heap, input)?;
     let round = OpenRound::new(heap)?;
-    match clear(round, &sheet, rule, progress) {
+    match clear(round, &sheet, rules, progress) {
         Ok(awarded) => {
             let report = Report::of(heap, &awarded)?;
             write_text(heap, &report, output)?;
@@ -59,17 +60,17 @@ fn read_sheet<R: Read + Drop>(heap: Global, input: R) -> io::Result<Vec<u8>>
 }
 
 // The award of a sheet: caught up with, closed with the prices as filed, and searched to the end.
-fn clear<B: BoundingRule, P: Progress>(
+fn clear<P: Progress>(
     mut round: OpenRound,
     sheet: &[u8],
-    rule: &mut B,
+    mut rules: Rules,
     progress: &mut P,
 ) -> Result<AwardedRound, Refusal>
-    ensures { MatchResult result (Cleared (B.BoundingRule.answers rule.old) (of_open round) sheet.now) (NotCleared (of_open round) sheet.now) }
+    ensures { MatchResult result (Cleared (searching rules) (of_open round) sheet.now) (NotCleared (of_open round) sheet.now) }
 {
     round.catch_up(sheet)?;
     match round.close(&mut Filed) {
-        Ok(closed) => Ok(finish(closed, rule, progress)),
+        Ok(closed) => Ok(finish(closed, &mut rules, progress)),
         Err((_, refusal)) => Err(refusal),
     }
 }
@@ -77,7 +78,6 @@ fn clear<B: BoundingRule, P: Progress>(
 #[cfg(test)]
 mod tests {
     use super::*;
-    use bounds::ceiling::Ceiling;
     use printing::failing::{CutOff, Full};
     use std::io::ErrorKind;
     use std::test::*;
@@ -99,7 +99,7 @@ mod tests {
         for (sheet, refused, text) in sheets {
             let mut output = Vec::new(rt.alloc());
             assert_eq!(rt;
-                answer_sheet(rt.alloc(), sheet, &mut output, &mut Ceiling, &mut Silent)?,
+                answer_sheet(rt.alloc(), sheet, &mut output, Rules::Quick, &mut Silent)?,
                 refused
             );
             assert_eq!(rt; output.as_slice(), text.as_bytes());
@@ -111,15 +111,17 @@ mod tests {
     fn failures_come_out(rt: HostRuntime) {
         let mut output = Vec::new(rt.alloc());
         let reader = CutOff { is_cut: false };
-        match answer_sheet(rt.alloc(), reader, &mut output, &mut Ceiling, &mut Silent) {
+        match answer_sheet(rt.alloc(), reader, &mut output, Rules::Quick, &mut Silent) {
             Ok(_) => assert!(rt; false, "answered half a sheet"),
             Err(e) => assert!(rt; e.kind() == ErrorKind::TimedOut),
         }
         assert!(rt; output.is_empty());
         let sheet: &[u8] = b"";
-        match answer_sheet(rt.alloc(), sheet, &mut Full { room: 20 }, &mut Ceiling, &mut Silent) {
+        let mut full = Full::new(rt.alloc(), 20);
+        match answer_sheet(rt.alloc(), sheet, &mut full, Rules::Quick, &mut Silent) {
             Ok(_) => assert!(rt; false, "wrote past the end"),
             Err(e) => assert!(rt; e.kind() == ErrorKind::BrokenPipe),
         }
+        assert_eq!(rt; full.kept.as_slice(), "open 0 choices 1\nsur".as_bytes());
     }
 }

@@ -10,3 +10,7 @@ pub mod report;
 // From bytes to text:
 //   answer_sheet   reads a sheet, clears its round, and writes the text of its award or its refusal
 pub mod answering;
+
+// By which rules a sheet's round is searched:
+//   Rules          those that are stated, or more for a quick search
+pub mod searching;

@@ -1,9 +1,10 @@
 // A line, written as its text.
 ghost use Rattle.std.specs.Prelude.{◌≡◌, Some};
+ghost use Rattle.offers.specs.Tables.{package_layout};
 ghost use Rattle.journals.specs.Chains.{joined_rules};
 ghost use Rattle.journals.specs.Lines.{said};
 ghost use Rattle.journals.specs.Stacks.{plain_stack};
-ghost use Rattle.journals.specs.Texts.{behind, kind_word, rule_word, kind_of, offer_words, zone_words, stack_words, rules_word, line_text};
+ghost use Rattle.journals.specs.Texts.{behind, kind_word, rule_word, kind_of, record_words, offer_words, zone_words, stack_words, rules_word, line_text};
 
 use crate::answers::Behind;
 use crate::lines::Line;
@@ -11,7 +12,7 @@ use crate::stacks::{Stack, Zones};
 use bounds::chains::Chain;
 use bounds::names::Named;
 use offers::memory::{Kind, Offer};
-use offers::records::{Band, Exclusion, Limit, Package, Pair};
+use offers::records::Package;
 use std::fmt;
 
 // The word for a kind.
@@ -54,6 +55,23 @@ fn kind_of(offer: &Offer) -> Kind
     }
 }
 
+// The fields of a package, each behind a space.
+#[derive(Clone, Copy)]
+struct PackageWords<'a>(&'a Package);
+
+impl fmt::Display for PackageWords<'_> {
+    ghost output = { λ fields. Some (behind (record_words package_layout fields.0.now)) };
+
+    fn fmt<W: fmt::Write>(&self, f: &mut fmt::Formatter<W>) -> fmt::Result {
+        let p = self.0;
+        write!(f, " {} {} {}", p.power, p.energy, p.certificates)?;
+        write!(f, " {} {}", p.nameplate, p.price)?;
+        write!(f, " {} {}", p.power_zone, p.interconnection_zone)?;
+        write!(f, " {} {}", p.export_zone, p.price_zone)?;
+        write!(f, " {} {} {}", p.date, p.unqualified, p.dollar)
+    }
+}
+
 // The fields of a record, each behind a space.
 #[derive(Clone, Copy)]
 struct FieldWords<'a>(&'a Offer);
@@ -63,45 +81,11 @@ impl fmt::Display for FieldWords<'_> {
 
     fn fmt<W: fmt::Write>(&self, f: &mut fmt::Formatter<W>) -> fmt::Result {
         match self.0 {
-            Offer::Package(package) => {
-                let Package {
-                    power,
-                    energy,
-                    certificates,
-                    nameplate,
-                    price,
-                    ..
-                } = package;
-                write!(f, " {power} {energy} {certificates} {nameplate} {price}")?;
-                let Package {
-                    power_zone,
-                    interconnection_zone,
-                    export_zone,
-                    price_zone,
-                    ..
-                } = package;
-                write!(
-                    f,
-                    " {power_zone} {interconnection_zone} {export_zone} {price_zone}"
-                )?;
-                let Package {
-                    date,
-                    unqualified,
-                    dollar,
-                    ..
-                } = package;
-                write!(f, " {date} {unqualified} {dollar}")
-            }
-            Offer::Band(
-                Band {
-                    market,
-                    quantity,
-                    price,
-                },
-            ) => write!(f, " {market} {quantity} {price}"),
-            Offer::Pair(Pair { dependent, needed }) => write!(f, " {dependent} {needed}"),
-            Offer::Exclusion(Exclusion { group, member }) => write!(f, " {group} {member}"),
-            Offer::Limit(Limit { sort, zone, amount }) => write!(f, " {sort} {zone} {amount}"),
+            Offer::Package(package) => write!(f, "{}", PackageWords(package)),
+            Offer::Band(b) => write!(f, " {} {} {}", b.market, b.quantity, b.price),
+            Offer::Pair(p) => write!(f, " {} {}", p.dependent, p.needed),
+            Offer::Exclusion(e) => write!(f, " {} {}", e.group, e.member),
+            Offer::Limit(l) => write!(f, " {} {} {}", l.sort, l.zone, l.amount),
         }
     }
 }

@@ -1,8 +1,7 @@
-use Rattle.std.proofs.Common.{◌≡◌, ◌+◌, ◌≤◌, eqb, length, map}
-use Rattle.std.specs.Str.Lines.{strip_carriage_return}
+use Rattle.std.proofs.Common.{◌≡◌, ◌+◌, ◌≤◌, length, map}
 use Rattle.journals.specs.Journals.{journal_from, journal_in}
 use Rattle.journals.specs.Lines.{said}
-use Rattle.journals.specs.Words.{parts_in}
+use Rattle.journals.specs.Words.{lines_left}
 use Rattle.journals.proofs.Journaling.{after}
 use Rattle.journals.proofs.Parting.{size_left}
 use Rattle.journals.proofs.journals.read_journal.Given as goal
@@ -11,7 +10,7 @@ use Rattle.journals.proofs.journals.read_journal.Given as goal
 abbrev pub invariant-loop-rest : goal.invariant-loop-rest
 invariant-loop-rest l =
     record {
-      told : after (map said l.lines.items) (journal_from l.number (map strip_carriage_return (parts_in (λ b. eqb b 10) l.rest))) ≡ journal_in l.fn.text;
+      told : after (map said l.lines.items) (journal_from l.number (lines_left l.rest)) ≡ journal_in l.fn.text;
       few : l.number + size_left l.rest ≤ length l.fn.text + 2;
     }
 

@@ -2,6 +2,7 @@
 use Rattle.std.proofs.Common.{◌≤◌, List, true, false, vec_items, subst, subst₂}
 use Rattle.rounds.specs.Model.{Model}
 use Rattle.reports.specs.Cleared.{Cleared, NotCleared}
+use Rattle.reports.specs.Searching.{searching}
 use Rattle.reports.specs.Text.{report_text, refused_text}
 use Rattle.reports.proofs.OneAnswer.{answered}
 use Rattle.reports.proofs.Tellings.{awarded_answers, refused_answers}
@@ -12,7 +13,7 @@ returns-in-Ok g c =
     let sheet = vec_items c.in_ok-sheet.sheet in
     let round = c.in-Ok.awarded in
     let report = c.in_ok-report-in-Ok.report in
-    let means = g.B.BoundingRule.answers c.args.rule.now in
+    let means = searching c.args.rules in
     let few = subst (λ n. n ≤ 4096) c.in_ok-sheet.sheet.ok.0 c.in_ok-sheet.ensures.few in
     let cleared = subst₂ (λ (m : Model) (bs : List _). Cleared means m bs round) c.in_ok-round.ensures c.deref.ensures.value c.in-Ok.ensures in
     answered _ _ _ false sheet (report_text report) few c.in_ok-sheet.ensures.bytes
