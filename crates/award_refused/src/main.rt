@@ -1,11 +1,10 @@
-// Reads a sheet from standard input, clears its round, and prints the award.
+//! Reads a sheet from standard input, clears its round, and prints the award.
 #![tactic(auto)]
 
 use anyhow::bail;
 use clap::{Arg, ArgAction, Command};
-use printing::meters::Meter;
-use reports::answering::answer_sheet;
-use reports::searching::Rules;
+use printing::Meter;
+use reports::{Rules, answer_sheet};
 use std::alloc::Global;
 use std::env;
 

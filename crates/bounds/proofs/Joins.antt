@@ -1,6 +1,6 @@
 -- Why the passes find the packages that could be taken with others: those others keep the rules, so only what concerns the package can break one.
-use Rattle.std.proofs.Common.{◌≡◌, ℕ, le_trans, ◌+◌, ◌-◌, ◌≤◌, max, min, Bool, true, false, not, ◌&&◌, ◌||◌, eqb, leb, ◌⊎◌, List, [], ◌∷◌, get_or, vec_items, Decides, refl, sym, ap, ◌∙◌, ap₂, subst, inl, inr, ⊎_elim, zero-add, arith}
-use Rattle.std.specs.List.{AllByRecursion as Every, filter}
+use Rattle.std.proofs.Common.{◌≡◌, ℕ, le_trans, ◌+◌, ◌-◌, ◌≤◌, max, min, Bool, true, false, not, ◌&&◌, ◌||◌, eqb, leb, ◌⊎◌, List, [], ◌∷◌, get_or, vec_items, Decides, refl, sym, ap, ◌∙◌, ap₂, subst, inl, inr, ⊎_elim, zero-add, arith, cond}
+use Rattle.std.specs.List.{AllByRecursion as Every, filter, list_all}
 use Rattle.std.proofs.ByRecursion.{All-weaker, All-get_or, All-from_get_or, Decides-by_and}
 use Rattle.std.proofs.lemmas.Bool.{and_from, and_parts, both_ways, cases_Bool, cases_lt, cond-true, cond-false, cond_both, eq-eqb, or_cases, or_left, or_right, eqb-true, leb-true, le-leb}
 use Rattle.std.proofs.lemmas.Bool.Decides.{same_from_decides, Decides-like, Decides-and}
@@ -11,10 +11,10 @@ use Rattle.offers.specs.Tables.{pair_layout, exclusion_layout}
 use Rattle.clearing.specs.declared.dockets.PricedPackage.{PricedPackage}
 use Rattle.clearing.specs.declared.dockets.Docket.{Docket}
 use Rattle.clearing.specs.declared.tallies.Tally.{Tally}
-use Rattle.clearing.specs.Choices.{where_so, nameplates, exports, has_number}
-use Rattle.clearing.specs.Judging.{pairs_met, groups_apart, zones_within}
+use Rattle.clearing.specs.Choices.{nameplates, exports, has_number}
+use Rattle.clearing.specs.Judging.{pairs_kept, exclusions_kept, zones_kept}
 use Rattle.clearing.specs.Lawful.{view}
-use Rattle.clearing.specs.Ranges.{each, fits, package_fits}
+use Rattle.clearing.specs.Ranges.{fits, package_fits}
 use Rattle.clearing.specs.Tallies.{row, tally_of}
 use Rattle.clearing.proofs.Fits.{each-most, pair_ranges, ExclusionRanges, exclusion_ranges, PackageRanges, priced_ranges}
 use Rattle.clearing.proofs.Held.{no_exclusion}
@@ -27,8 +27,8 @@ use Rattle.bounds.specs.Live.{cleared, needs, head, unopposed, tightest, room}
 use Rattle.bounds.proofs.Cleared.{cleared_decides}
 
 -- a test passed by every element, as a fact of every element
-each_every : {X : Type 0} (f : X → Bool) (xs : List X) → Decides (each f xs) (Every (λ x. f x ≡ true) xs)
-each_every f xs = Decides-by_and f (λ x. f x ≡ true) (each f) (λ x. ((λ e. e), (λ e. e))) refl (λ _ _. refl) xs
+each_every : {X : Type 0} (f : X → Bool) (xs : List X) → Decides (list_all f xs) (Every (λ x. f x ≡ true) xs)
+each_every f xs = Decides-by_and f (λ x. f x ≡ true) (list_all f) (λ x. ((λ e. e), (λ e. e))) refl (λ _ _. refl) xs
 
 -- a number is taken if its place says so
 takes_is : (T : List PricedPackage) (t : Tally) → t ≡ tally_of T → (n : ℕ) → n ≤ 40 → get_or t.takes n false ≡ has_number n T
@@ -51,8 +51,8 @@ module _ (T : List PricedPackage) (p : PricedPackage) where
   either-is n has = ⊎_elim (λ e. inl (sym (eqb-true p.number n e))) (λ e. inr e) (or_cases (eqb p.number n) (has_number n T) has)
 
   -- the rule of pairs
-  pub pairs-joined : (W : List PricedPackage) (w : Tally) → w ≡ tally_of W → (pairs : List Pair) → each (fits pair_layout) pairs ≡ true → pairs_met pairs T W ≡ true
-      → cleared (λ (q : Pair). q.dependent) (needs w.takes) pairs p.number ≡ pairs_met pairs (p ∷ T) W
+  pub pairs-joined : (W : List PricedPackage) (w : Tally) → w ≡ tally_of W → (pairs : List Pair) → list_all (fits pair_layout) pairs ≡ true → pairs_kept pairs T W ≡ true
+      → cleared (λ (q : Pair). q.dependent) (needs w.takes) pairs p.number ≡ pairs_kept pairs (p ∷ T) W
   pairs-joined W w others pairs ok kept =
       let ranges = (each_every (fits pair_layout) pairs).0 ok in
       let rule = (pairs_tell pairs T W).0 kept in
@@ -91,7 +91,7 @@ module _ (takes : List Bool) where
   head-most group [] = tt
   head-most group (e ∷ es) = (
     (λ same is.
-        let counts : where_so (eqb e.group group && get_or takes e.member false) e.member ≡ e.member = cond-true _ e.member 0 (and_from _ _ (eq-eqb e.group group same) is) in
+        let counts : cond (eqb e.group group && get_or takes e.member false) e.member 0 ≡ e.member = cond-true _ e.member 0 (and_from _ _ (eq-eqb e.group group same) is) in
         omega (arith, counts)),
     All-weaker _ _ (λ f most. λ same is. omega (arith, most same is)) es (head-most group es),
   )
@@ -101,7 +101,7 @@ module _ (takes : List Bool) where
   own-most es =
       All-from_get_or _ es no_exclusion (λ j h. All-get_or _ es j no_exclusion h (head-most (get_or es j no_exclusion).group es) refl)
 
-module _ (T : List PricedPackage) (t : Tally) (counted : t ≡ tally_of T) (xs : List Exclusion) (ok : each (fits exclusion_layout) xs ≡ true) (kept : groups_apart xs T ≡ true) where
+module _ (T : List PricedPackage) (t : Tally) (counted : t ≡ tally_of T) (xs : List Exclusion) (ok : list_all (fits exclusion_layout) xs ≡ true) (kept : exclusions_kept xs T ≡ true) where
   -- what stands for each group
   abbrev heads : List ℕ
   heads = row (head t.takes xs) 1 16
@@ -144,7 +144,7 @@ module _ (T : List PricedPackage) (t : Tally) (counted : t ≡ tally_of T) (xs :
       (or_cases (eqb (get_or heads (e.group - 1) 0) 0) (eqb (get_or heads (e.group - 1) 0) e.member) fine)
 
   -- the rule of groups
-  pub groups-joined : (p : PricedPackage) → cleared (λ (e : Exclusion). e.member) (unopposed heads) xs p.number ≡ groups_apart xs (p ∷ T)
+  pub groups-joined : (p : PricedPackage) → cleared (λ (e : Exclusion). e.member) (unopposed heads) xs p.number ≡ exclusions_kept xs (p ∷ T)
   groups-joined p =
       same_from_decides _ _
       (Decides-like _
@@ -200,7 +200,7 @@ module _ (sort zone n : ℕ) where
 
 -- loads of zones with one package more, within limits of a sort
 abbrev Loads : ℕ → Bool → ℕ → ℕ → (ℕ → ℕ) → Limit → Type 0
-Loads sort counts zone amount load l = l.sort ≡ sort → where_so (counts && eqb zone l.zone) amount + load l.zone ≤ l.amount
+Loads sort counts zone amount load l = l.sort ≡ sort → cond (counts && eqb zone l.zone) amount 0 + load l.zone ≤ l.amount
 
 -- where the others are within them, the package has room if its zone has
 loads_decide : (sort : ℕ) (counts : Bool) (zone amount : ℕ) (load : ℕ → ℕ) (ls : List Limit) → Every (λ l. l.sort ≡ sort → load l.zone ≤ l.amount) ls → load zone + amount ≤ 1000000000000
@@ -215,7 +215,7 @@ loads_decide sort true zone amount load ls kept few =
           (λ _. omega (arith, all.1 is))) ls ((all_both _ _ ls).1 (within-each sort zone x ls (leb-true x (tightest sort ls zone) e), kept))),
       (λ all.
           le-leb x (tightest sort ls zone) (within-least sort zone x few ls (All-weaker _ _ (λ l rule. λ is at.
-          let here : where_so (eqb zone l.zone) amount ≡ amount = cond-true _ amount 0 (eq-eqb zone l.zone (sym at)) in
+          let here : cond (eqb zone l.zone) amount 0 ≡ amount = cond-true _ amount 0 (eq-eqb zone l.zone (sym at)) in
           omega (arith, ap load at, here, rule is)) ls all))),
     )
 
@@ -224,23 +224,23 @@ spread : (a b c : Bool) → (not a || (b && c)) ≡ ((not a || b) && (not a || c
 spread true b c = refl
 spread false b c = refl
 
-module _ (T : List PricedPackage) (t : Tally) (counted : t ≡ tally_of T) (bounded : Bounded 400000000 t) (ls : List Limit) (kept : zones_within ls T ≡ true) (p : PricedPackage) (r : PackageRanges p.«record») where
+module _ (T : List PricedPackage) (t : Tally) (counted : t ≡ tally_of T) (bounded : Bounded 400000000 t) (ls : List Limit) (kept : zones_kept ls T ≡ true) (p : PricedPackage) (r : PackageRanges p.terms) where
   -- the limits of zones
-  pub zones-joined : room (row (tightest 1 ls) 1 16) (row (tightest 2 ls) 1 16) t p.«record» ≡ zones_within ls (p ∷ T)
+  pub zones-joined : room (row (tightest 1 ls) 1 16) (row (tightest 2 ls) 1 16) t p.terms ≡ zones_kept ls (p ∷ T)
   zones-joined =
-      let counts = eqb p.«record».unqualified 1 in
-      let from = p.«record».interconnection_zone in
-      let to = p.«record».export_zone in
+      let counts = eqb p.terms.unqualified 1 in
+      let from = p.terms.interconnection_zone in
+      let to = p.terms.export_zone in
       let rule = (all_both _ _ ls).0 ((zones_tell ls T).0 kept) in
       let load-from = ap (λ (t : Tally). get_or t.nameplate (from - 1) 0) counted ∙ row_at (λ z. nameplates z T) 16 from r.interconnection_zone_least r.interconnection_zone in
       let load-to = ap (λ (t : Tally). get_or t.export (to - 1) 0) counted ∙ row_at (λ z. exports z T) 16 to r.export_zone_least r.export_zone in
       let least-from = row_at (tightest 1 ls) 16 from r.interconnection_zone_least r.interconnection_zone in
       let least-to = row_at (tightest 2 ls) 16 to r.export_zone_least r.export_zone in
-      let one = loads_decide 1 counts from p.«record».nameplate (λ z. nameplates z T) ls rule.0 (omega (arith, load-from, r.nameplate, each-most 400000000 t.nameplate (from - 1) bounded.nameplate)) in
-      let other = loads_decide 2 counts to p.«record».energy (λ z. exports z T) ls rule.1 (omega (arith, load-to, r.energy, each-most 400000000 t.export (to - 1) bounded.export)) in
+      let one = loads_decide 1 counts from p.terms.nameplate (λ z. nameplates z T) ls rule.0 (omega (arith, load-from, r.nameplate, each-most 400000000 t.nameplate (from - 1) bounded.nameplate)) in
+      let other = loads_decide 2 counts to p.terms.energy (λ z. exports z T) ls rule.1 (omega (arith, load-to, r.energy, each-most 400000000 t.export (to - 1) bounded.export)) in
       ap₂ (λ a b. not counts || (a && b))
-      (ap₂ (λ n m. leb (n + p.«record».nameplate) m) load-from least-from)
-      (ap₂ (λ n m. leb (n + p.«record».energy) m) load-to least-to)
+      (ap₂ (λ n m. leb (n + p.terms.nameplate) m) load-from least-from)
+      (ap₂ (λ n m. leb (n + p.terms.energy) m) load-to least-to)
       ∙ spread counts _ _
       ∙ same_from_decides _ _
       (Decides-like _ (λ both. (all_both _ _ ls).1 both) (λ all. (all_both _ _ ls).0 all) (Decides-and _ _ one other))
@@ -254,23 +254,23 @@ module _ (d : Docket) (T W : List PricedPackage) where
   -- do the others keep the rules?
   abbrev pub keep : Bool
   keep =
-      pairs_met (vec_items d.pairs.list) T W
-      && (groups_apart (vec_items d.exclusions.list) T && zones_within (vec_items d.limits.list) T)
+      pairs_kept (vec_items d.pairs.list) T W
+      && (exclusions_kept (vec_items d.exclusions.list) T && zones_kept (vec_items d.limits.list) T)
 
   -- what the passes say of a package
   abbrev pub passed : Tally → Tally → PricedPackage → Bool
   passed t w p =
       get_or (row (cleared (λ (q : Pair). q.dependent) (needs w.takes) (vec_items d.pairs.list)) 0 41) p.number false
       && (get_or (row (cleared (λ (e : Exclusion). e.member) (unopposed (row (head t.takes (vec_items d.exclusions.list)) 1 16)) (vec_items d.exclusions.list)) 0 41) p.number false
-      && room (row (tightest 1 (vec_items d.limits.list)) 1 16) (row (tightest 2 (vec_items d.limits.list)) 1 16) t p.«record»)
+      && room (row (tightest 1 (vec_items d.limits.list)) 1 16) (row (tightest 2 (vec_items d.limits.list)) 1 16) t p.terms)
 
   -- where the others keep the rules, that is whether it could be taken with them
   pub joins-passed : (t w : Tally) → t ≡ tally_of T → w ≡ tally_of W → Bounded 400000000 t → keep ≡ true → (p : PricedPackage) → package_fits p ≡ true
       → passed t w p ≡ joins (view d) T W p
   joins-passed t w counted others bounded kept p fits =
       let r = priced_ranges p fits in
-      let one = and_parts (pairs_met (vec_items d.pairs.list) T W) _ kept in
-      let two = and_parts (groups_apart (vec_items d.exclusions.list) T) (zones_within (vec_items d.limits.list) T) one.1 in
+      let one = and_parts (pairs_kept (vec_items d.pairs.list) T W) _ kept in
+      let two = and_parts (exclusions_kept (vec_items d.exclusions.list) T) (zones_kept (vec_items d.limits.list) T) one.1 in
       ap₂ (λ a b. a && b)
       (test-at (cleared (λ (q : Pair). q.dependent) (needs w.takes) (vec_items d.pairs.list)) p.number r.number ∙ pairs-joined T p W w others (vec_items d.pairs.list) d.pairs_fit one.0)
       (ap₂ (λ a b. a && b)
@@ -283,8 +283,8 @@ module _ (d : Docket) (T W : List PricedPackage) where
       let pairs = vec_items d.pairs.list in
       let xs = vec_items d.exclusions.list in
       let ls = vec_items d.limits.list in
-      let one = and_parts (pairs_met pairs (p ∷ T) W) _ joined in
-      let two = and_parts (groups_apart xs (p ∷ T)) (zones_within ls (p ∷ T)) one.1 in
+      let one = and_parts (pairs_kept pairs (p ∷ T) W) _ joined in
+      let two = and_parts (exclusions_kept xs (p ∷ T)) (zones_kept ls (p ∷ T)) one.1 in
       and_from _ _
       ((pairs_tell pairs T W).1 (All-weaker _ _ (λ q rule. λ has. rule (they-are T p q.dependent has)) pairs ((pairs_tell pairs (p ∷ T) W).0 one.0)))
       (and_from _ _

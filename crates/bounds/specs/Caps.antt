@@ -1,12 +1,12 @@
 -- Why each rule is sound, of a docket in range: its caps are no less than any lawful surplus, and none is lawful where it says none.
-use Rattle.std.specs.Prelude.{◌≡◌, ℕ, ◌*◌, ◌≤◌, true, ◌&&◌, List, ℤ, ◌≤ℤ◌, Some, None, Option, ◌==◌}
+use Rattle.std.specs.Prelude.{◌≡◌, ℕ, ◌*◌, ◌≤◌, true, ◌&&◌, List, ℤ, ◌≤ℤ◌, Some, None, Option, ◌==◌, cond}
 use Rattle.std.proofs.Common.{le_trans, mul-le-mul_left, arith}
 use Rattle.std.proofs.ByRecursion.{All-weaker}
 use Rattle.std.proofs.lemmas.Int.{ints, clamps}
 use Rattle.std.proofs.lemmas.Bool.{and_from, both_ways, cond_both}
 use Rattle.clearing.specs.declared.dockets.PricedPackage.{PricedPackage}
-use Rattle.clearing.specs.Choices.{taken, where_so, supplied, supply, dated}
-use Rattle.clearing.specs.Judging.{pairs_met, groups_apart, zones_within, dates_within}
+use Rattle.clearing.specs.Choices.{taken, supplied, supply, dated}
+use Rattle.clearing.specs.Judging.{pairs_kept, exclusions_kept, zones_kept, dates_kept}
 use Rattle.clearing.specs.Lawful.{View, sold, percentage, Lawful, surplus, filled_sales}
 use Rattle.clearing.specs.Ranges.{package_fits}
 use Rattle.clearing.proofs.Filling.{ranged as ranges_of, market-most, best-filled, parts_of_one}
@@ -51,7 +51,7 @@ module _ (v : View) (ranged : Ranged v) where
 
     -- where a choice of a block is lawful, what is part of its packages passes the tests, with the packages that any choice takes
     pub part_passed : (choice : ℕ) (sales : List ℕ) → InBlock b choice → Lawful v choice sales → (T : List PricedPackage) → Part T (taken v.packages choice)
-        → (pairs_met v.pairs T (possible v b) && (groups_apart v.exclusions T && zones_within v.limits T)) ≡ true
+        → (pairs_kept v.pairs T (possible v b) && (exclusions_kept v.exclusions T && zones_kept v.limits T)) ≡ true
     part_passed choice sales inside lawful T less =
         let more = last_part v b block choice inside in
         let zones = (all_both _ _ v.limits).1 (lawful.interconnection, lawful.export) in
@@ -74,14 +74,14 @@ module _ (v : View) (ranged : Ranged v) where
         → 100 * dated date m (taken v.packages choice) ≤ percent * sold v.bands sales m
         → 100 * dated date m (fixed v b) ≤ percent * sold v.bands (filled_sales v (last_of b)) m
     shared choice sales inside lawful date m percent kept =
-        let less = (first_part v b block choice inside).less (λ p. where_so (p.«record».date == date) (supplied m p.«record»)) in
+        let less = (first_part v b block choice inside).less (λ p. cond (p.terms.date == date) (supplied m p.terms) 0) in
         let more = last_part v b block choice inside in
         let most = market-most v.bands (λ m. supply m (possible v b)) ranged.order.numbers ranged.order.ahead (ranges_of v.bands ranged.bands) 1 sales
         (parts_of_one v.bands sales lawful.within_quantities) (λ m. omega (arith, le_trans (lawful.within_supply m) (more.less _))) m in
         let more_sold : sold v.bands sales m ≤ sold v.bands (filled_sales v (last_of b)) m = omega (arith, most) in
         omega (arith, less, kept, mul-le-mul_left percent more_sold)
 
-    dates_passed : (choice : ℕ) (sales : List ℕ) → InBlock b choice → Lawful v choice sales → dates_within v (fixed v b) (filled_sales v (last_of b)) ≡ true
+    dates_passed : (choice : ℕ) (sales : List ℕ) → InBlock b choice → Lawful v choice sales → dates_kept v (fixed v b) (filled_sales v (last_of b)) ≡ true
     dates_passed choice sales inside lawful =
         let kept = shared choice sales inside lawful in
         let before = λ (m : ℕ) (low : 1 ≤ m) (high : m ≤ 3). kept 1 m (percentage v.limits 1) (lawful.power_before m low high) in

@@ -14,7 +14,7 @@ use Rattle.clearing.proofs.Filling.{ranged as ranges_of}
 use Rattle.clearing.proofs.Held.{no_package}
 use Rattle.clearing.proofs.Ranged.{Ranged, filled-most}
 use Rattle.bounds.specs.Blocks.{Span, InDocket, Claims}
-use Rattle.bounds.specs.Rules.{unlimited, gains, one_by_one}
+use Rattle.bounds.specs.Rules.{unlimited, lone_gains, one_by_one}
 use Rattle.bounds.specs.Parts.{lowest, first_part}
 
 -- Packages with one more among them: what it counts and costs is added, and its number.
@@ -90,13 +90,13 @@ module _ (v : View) (ranged : Ranged v) (b : Span) (block : InDocket v b) where
       let few : i ≤ b.free = omega arith in
       let less = first_part v b block (b.first + r) (record { from = omega arith; below = omega (arith, low, pow_mono few) }) in
       let income = income-added v.bands ranged.order.numbers ranged.order.ahead (ranges_of v.bands ranged.bands)
-      (λ m. supply m (taken ps (b.first + r))) (λ m. supply m (taken ps b.first)) (λ m. supplied m p.«record»)
+      (λ m. supply m (taken ps (b.first + r))) (λ m. supply m (taken ps b.first)) (λ m. supplied m p.terms)
       (λ m. supply m (taken ps (b.first + (r + 2 ^ i)))) (λ m. supply m (taken ps (b.first + 2 ^ i)))
       (λ m. added.amount _) (λ m. alone.amount _) (λ m. less.less _) in
       omega (arith, ints, income, added.price, alone.price)
 
   -- so a choice is worth no more than the first and what each of its free packages adds to that
-  worth-gains : (k r : ℕ) → k ≤ b.free → r < 2 ^ k → unlimited v (b.first + r) ≤ℤ (unlimited v b.first +ℤ gains v b.first k)
+  worth-gains : (k r : ℕ) → k ≤ b.free → r < 2 ^ k → unlimited v (b.first + r) ≤ℤ (unlimited v b.first +ℤ lone_gains v b.first k)
   worth-gains zero r few low =
       let none : b.first + r ≡ b.first = omega arith in
       rw none (omega (arith, ints))

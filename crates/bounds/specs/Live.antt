@@ -1,11 +1,10 @@
 -- What the passes over pairs, exclusions and limits find, that tells which packages could be taken with others. Assumes nothing.
-use Rattle.std.specs.Prelude.{ℕ, ◌+◌, ◌-◌, min, max, Bool, true, false, cond, not, ◌&&◌, ◌||◌, List, [], ◌∷◌, ◌==◌, nat_le, slice_index, slice_index_or}
+use Rattle.std.specs.Prelude.{ℕ, ◌+◌, ◌-◌, min, max, Bool, true, false, not, ◌&&◌, ◌||◌, List, [], ◌∷◌, ◌==◌, nat_le, slice_index, slice_index_or, if◌then◌else◌}
 use Rattle.offers.specs.declared.records.Package.{Package}
 use Rattle.offers.specs.declared.records.Pair.{Pair}
 use Rattle.offers.specs.declared.records.Exclusion.{Exclusion}
 use Rattle.offers.specs.declared.records.Limit.{Limit}
 use Rattle.clearing.specs.declared.tallies.Tally.{Tally}
-use Rattle.clearing.specs.Choices.{where_so}
 use Rattle.clearing.specs.Judging.{implies}
 
 -- do all records of a key pass a test?
@@ -20,7 +19,7 @@ needs takes p = slice_index_or takes p.needed false
 -- the greatest member of a group that is taken, 0 where none is
 abbrev pub head : List Bool → List Exclusion → ℕ → ℕ
 head takes [] group = 0
-head takes (e ∷ es) group = max (where_so (e.group == group && slice_index_or takes e.member false) e.member) (head takes es group)
+head takes (e ∷ es) group = max (if e.group == group && slice_index_or takes e.member false then e.member else 0) (head takes es group)
 
 -- does no other member than an exclusion's own stand for its group?
 abbrev pub unopposed : List ℕ → Exclusion → Bool
@@ -29,7 +28,7 @@ unopposed heads e = slice_index heads (e.group - 1) == 0 || slice_index heads (e
 -- the least amount of a zone's limits of a sort; where none is set, more than any load
 abbrev pub tightest : ℕ → List Limit → ℕ → ℕ
 tightest sort [] zone = 1000000000000
-tightest sort (l ∷ ls) zone = cond (l.sort == sort && l.zone == zone) (min l.amount (tightest sort ls zone)) (tightest sort ls zone)
+tightest sort (l ∷ ls) zone = if l.sort == sort && l.zone == zone then min l.amount (tightest sort ls zone) else tightest sort ls zone
 
 -- have the zones of a package room for it beside what is taken?
 abbrev pub room : List ℕ → List ℕ → Tally → Package → Bool

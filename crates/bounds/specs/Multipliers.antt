@@ -1,9 +1,9 @@
 -- The multipliers of a block. Assumes nothing.
-use Rattle.std.specs.Prelude.{ℕ, zero, suc, ◌+◌, ◌-◌, ◌*◌, ◌/◌, max, Bool, cond, ◌&&◌, List, [], ◌∷◌, ℤ, pos, ◌-ℤ◌, int_lt, ◌==◌, nat_lt, slice_index}
+use Rattle.std.specs.Prelude.{ℕ, zero, suc, ◌+◌, ◌-◌, ◌*◌, ◌/◌, max, Bool, ◌&&◌, List, [], ◌∷◌, ℤ, pos, ◌-ℤ◌, int_lt, ◌==◌, nat_lt, slice_index, if◌then◌else◌}
 use Rattle.std.specs.List.{filter}
 use Rattle.clearing.specs.declared.dockets.PricedPackage.{PricedPackage}
 use Rattle.clearing.specs.declared.dockets.OpenBand.{OpenBand}
-use Rattle.clearing.specs.Choices.{total, where_so, markets, supplied, supply}
+use Rattle.clearing.specs.Choices.{total, markets, supplied, supply}
 use Rattle.clearing.specs.Tallies.{row}
 use Rattle.bounds.specs.declared.multipliers.Between.{Between}
 
@@ -16,12 +16,12 @@ abbrev pub unit_worth : Multipliers → ℕ → ℕ
 unit_worth l m = slice_index l (m - 1)
 
 -- what amounts of the markets are worth
-abbrev pub worth : Multipliers → (ℕ → ℕ) → ℕ
-worth l amount = total (λ m. unit_worth l m * amount m) markets
+abbrev pub value_at : Multipliers → (ℕ → ℕ) → ℕ
+value_at l amount = total (λ m. unit_worth l m * amount m) markets
 
 -- what the supplies of a package are worth above its price
 abbrev pub gain : Multipliers → PricedPackage → ℤ
-gain l p = pos (worth l (λ m. supplied m p.«record»)) -ℤ p.price
+gain l p = pos (value_at l (λ m. supplied m p.terms)) -ℤ p.price
 
 -- the packages that are worth more than their price
 abbrev pub gainful : Multipliers → List PricedPackage → List PricedPackage
@@ -30,14 +30,14 @@ gainful l ps = filter (λ p. int_lt (pos 0) (gain l p)) ps
 -- what the bands of a market ask for that pay above the market's multiplier
 abbrev pub asked_above : List OpenBand → Multipliers → ℕ → ℕ
 asked_above bands l m =
-    total (λ b. where_so (b.«record».market == m && nat_lt (unit_worth l m) b.«record».price) b.«record».quantity) bands
+    total (λ b. if b.terms.market == m && nat_lt (unit_worth l m) b.terms.price then b.terms.quantity else 0) bands
 
 -- the greatest price of a market's bands whose running total (its own quantity and what stands ahead of it) exceeds an amount, 0 where
 -- none does: by falling price running totals rise, so it is that of the first that exceeds it
 abbrev pub price_at : List OpenBand → ℕ → ℕ → ℕ
 price_at [] m amount = 0
 price_at (b ∷ bs) m amount =
-    max (where_so (b.«record».market == m && nat_lt amount (b.ahead + b.«record».quantity)) b.«record».price) (price_at bs m amount)
+    max (if b.terms.market == m && nat_lt amount (b.ahead + b.terms.quantity) then b.terms.price else 0) (price_at bs m amount)
 
 -- half-way between, rounded down
 abbrev pub middle : Between → Multipliers
@@ -51,8 +51,8 @@ oversupplied bands fixed free l m = nat_lt (asked_above bands l m) (supply m fix
 -- the half where they are looked for next: the lower one of a market that is oversupplied, else the upper
 abbrev pub narrowed : List OpenBand → List PricedPackage → List PricedPackage → Between → Between
 narrowed bands fixed free s = record {
-  low = row (λ m. cond (oversupplied bands fixed free (middle s) m) (unit_worth s.low m) (unit_worth (middle s) m)) 1 5;
-  high = row (λ m. cond (oversupplied bands fixed free (middle s) m) (unit_worth (middle s) m) (unit_worth s.high m)) 1 5;
+  low = row (λ m. if oversupplied bands fixed free (middle s) m then unit_worth s.low m else unit_worth (middle s) m) 1 5;
+  high = row (λ m. if oversupplied bands fixed free (middle s) m then unit_worth (middle s) m else unit_worth s.high m) 1 5;
 }
 
 -- so many times
@@ -61,12 +61,12 @@ narrowing zero bands fixed free s = s
 narrowing (suc times) bands fixed free s = narrowed bands fixed free (narrowing times bands fixed free s)
 
 -- what the first band pays that is not filled by all, and by the fixed alone
-abbrev pub beginning : List OpenBand → List PricedPackage → List PricedPackage → Between
-beginning bands fixed free = record {
+abbrev pub widest : List OpenBand → List PricedPackage → List PricedPackage → Between
+widest bands fixed free = record {
   low = row (λ m. price_at bands m (supply m fixed + supply m free)) 1 5;
   high = row (λ m. price_at bands m (supply m fixed)) 1 5;
 }
 
 -- the multipliers of a block, of its fixed packages and of those that are free
 abbrev pub multipliers : List OpenBand → List PricedPackage → List PricedPackage → Multipliers
-multipliers bands fixed free = middle (narrowing 6 bands fixed free (beginning bands fixed free))
+multipliers bands fixed free = middle (narrowing 6 bands fixed free (widest bands fixed free))

@@ -1,11 +1,11 @@
 -- What each bounding rule answers. Assumes nothing.
-use Rattle.std.specs.Prelude.{ℕ, zero, suc, ◌+◌, ◌-◌, ◌*◌, ◌^◌, cond, Bool, ◌&&◌, List, [], ◌∷◌, take, fold, ℤ, pos, ◌+ℤ◌, ◌-ℤ◌, Some, None, Option}
+use Rattle.std.specs.Prelude.{ℕ, zero, suc, ◌+◌, ◌-◌, ◌*◌, ◌^◌, Bool, ◌&&◌, List, [], ◌∷◌, take, fold, ℤ, pos, ◌+ℤ◌, ◌-ℤ◌, Some, None, Option, if◌then◌else◌}
 use Rattle.std.specs.Int.{int_max, int_min}
 use Rattle.std.specs.List.{filter}
 use Rattle.clearing.specs.declared.dockets.PricedPackage.{PricedPackage}
 use Rattle.clearing.specs.declared.dockets.OpenBand.{OpenBand}
 use Rattle.clearing.specs.Choices.{taken, total, supply, cost}
-use Rattle.clearing.specs.Judging.{pairs_met, groups_apart, zones_within, dates_within}
+use Rattle.clearing.specs.Judging.{pairs_kept, exclusions_kept, zones_kept, dates_kept}
 use Rattle.clearing.specs.Lawful.{View, income, surplus, filled_sales}
 use Rattle.clearing.specs.Sales.{filled}
 use Rattle.clearing.specs.Tallies.{row}
@@ -52,23 +52,23 @@ abbrev pub unlimited : View → ℕ → ℤ
 unlimited v choice = surplus v choice (filled_sales v choice)
 
 -- what each package of the lowest so many digits alone would add to a choice, if above 0, together
-abbrev pub gains : View → ℕ → ℕ → ℤ
-gains v choice zero = pos 0
-gains v choice (suc digit) = gains v choice digit +ℤ int_max (unlimited v (choice + 2 ^ digit) -ℤ unlimited v choice) (pos 0)
+abbrev pub lone_gains : View → ℕ → ℕ → ℤ
+lone_gains v choice zero = pos 0
+lone_gains v choice (suc digit) = lone_gains v choice digit +ℤ int_max (unlimited v (choice + 2 ^ digit) -ℤ unlimited v choice) (pos 0)
 
 -- one-by-one: the surplus of the fixed packages, lawful or not, and what each free package alone would add to it, if above 0
 abbrev pub one_by_one : Answers
-one_by_one v b = Some (unlimited v b.first +ℤ gains v b.first b.free)
+one_by_one v b = Some (unlimited v b.first +ℤ lone_gains v b.first b.free)
 
 -- limits: none where the fixed packages break an exclusion or a limit of a zone, or need one that is not open or fixed as left out
 abbrev pub limits_kept : Answers
 limits_kept v b =
-    cond (pairs_met v.pairs (fixed v b) (possible v b) && (groups_apart v.exclusions (fixed v b) && zones_within v.limits (fixed v b)))
-    (Some ceiling) None
+    if pairs_kept v.pairs (fixed v b) (possible v b) && (exclusions_kept v.exclusions (fixed v b) && zones_kept v.limits (fixed v b))
+    then Some ceiling else None
 
 -- a package that could be taken with others, by the tests of the limits rule (W: those that may be taken in all)
 abbrev pub joins : View → List PricedPackage → List PricedPackage → PricedPackage → Bool
-joins v T W p = pairs_met v.pairs (p ∷ T) W && (groups_apart v.exclusions (p ∷ T) && zones_within v.limits (p ∷ T))
+joins v T W p = pairs_kept v.pairs (p ∷ T) W && (exclusions_kept v.exclusions (p ∷ T) && zones_kept v.limits (p ∷ T))
 
 -- the free packages of a block that could be taken with the fixed ones
 abbrev pub live_ones : View → Span → List PricedPackage
@@ -77,7 +77,7 @@ live_ones v b = filter (joins v (fixed v b) (possible v b)) (free_ones v b)
 -- what is sold of a supply beyond what is sold of a smaller one, at what each band pays for a unit above its worth
 abbrev pub sold_above : Multipliers → List OpenBand → List ℕ → List ℕ → ℕ
 sold_above l bands less more =
-    total (λ b. (filled more b - filled less b) * (b.«record».price - unit_worth l b.«record».market)) bands
+    total (λ b. (filled more b - filled less b) * (b.terms.price - unit_worth l b.terms.market)) bands
 
 -- of gains only what is above 0, together
 abbrev pub gains_above : Multipliers → List PricedPackage → ℤ
@@ -99,7 +99,7 @@ tangent v b = Some (tangent_by (multipliers v.bands (fixed v b) (live_ones v b))
 -- shares: none where what is dated of the fixed packages is above its percentage of the most that any choice of the block can sell in
 -- its market
 abbrev pub shares_kept : Answers
-shares_kept v b = cond (dates_within v (fixed v b) (filled_sales v (last_of b))) (Some ceiling) None
+shares_kept v b = if dates_kept v (fixed v b) (filled_sales v (last_of b)) then Some ceiling else None
 
 -- joined: none where either of two rules says so, else the smaller cap
 abbrev pub smaller : Option ℤ → Option ℤ → Option ℤ

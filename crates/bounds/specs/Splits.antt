@@ -1,14 +1,13 @@
 -- What a choice of a block takes: of the free packages what its free digits say, and the fixed ones. Where it is lawful, those of the free are live.
 use Rattle.std.specs.Prelude.{◌≡◌, ℕ, zero, suc, ◌+◌, ◌-◌, ◌*◌, ◌/◌, ◌%◌, ◌^◌, ◌<◌, Bool, true, false, cond, List, [], ◌∷◌, ◌++◌, take, drop, ◌==◌, refl}
 use Rattle.std.proofs.Common.{sym, ap, ap₂, ◌∙◌, arith}
-use Rattle.std.specs.List.{filter}
+use Rattle.std.specs.List.{filter, list_all}
 use Rattle.std.proofs.Math.Nat.{pow-succ'}
 use Rattle.std.proofs.lemmas.Nat.{pow_pos}
 use Rattle.std.proofs.lemmas.Bool.{true≢false, and_from, and_parts}
 use Rattle.clearing.specs.declared.dockets.PricedPackage.{PricedPackage}
 use Rattle.clearing.specs.Choices.{taken}
 use Rattle.clearing.specs.Lawful.{View, Lawful}
-use Rattle.clearing.specs.Ranges.{each}
 use Rattle.clearing.proofs.Ranged.{Ranged}
 use Rattle.bounds.specs.Blocks.{Span, InDocket, InBlock}
 use Rattle.bounds.specs.Rules.{fixed, possible, free_ones, joins}
@@ -40,7 +39,7 @@ taken-splits (suc k) q r low (p ∷ ps) =
 
 -- packages that stand beside others in a whole pass a test that each passes which could stand there with them
 each-beside : (test : PricedPackage → Bool) (xs ys whole : List PricedPackage) → ((p : PricedPackage) → Part (p ∷ ys) whole → test p ≡ true)
-    → Part (xs ++ ys) whole → each test xs ≡ true
+    → Part (xs ++ ys) whole → list_all test xs ≡ true
 each-beside test [] ys whole passes part = refl
 each-beside test (x ∷ xs) ys whole passes part =
     let rest = part_after xs ys in
@@ -49,15 +48,15 @@ each-beside test (x ∷ xs) ys whole passes part =
     and_from _ _ (passes x with_one) (each-beside test xs ys whole passes others)
 
 -- where one more passes if it is taken
-pub each-next : (test : PricedPackage → Bool) (one : Bool) (p : PricedPackage) (xs : List PricedPackage) → each test (cond one (p ∷ xs) xs) ≡ true
-    → (one ≡ true → test p ≡ true) × (each test xs ≡ true)
+pub each-next : (test : PricedPackage → Bool) (one : Bool) (p : PricedPackage) (xs : List PricedPackage) → list_all test (cond one (p ∷ xs) xs) ≡ true
+    → (one ≡ true → test p ≡ true) × (list_all test xs ≡ true)
 each-next test true p xs ok =
-    let parts = and_parts (test p) (each test xs) ok in
+    let parts = and_parts (test p) (list_all test xs) ok in
     ((λ _. parts.0), parts.1)
 each-next test false p xs ok = ((λ is. absurd (true≢false (sym is))), ok)
 
 -- what is taken, if all of it passes, is part of all that pass
-pub taken-kept : (test : PricedPackage → Bool) (ps : List PricedPackage) (r : ℕ) → each test (taken ps r) ≡ true → Part (taken ps r) (filter test ps)
+pub taken-kept : (test : PricedPackage → Bool) (ps : List PricedPackage) (r : ℕ) → list_all test (taken ps r) ≡ true → Part (taken ps r) (filter test ps)
 taken-kept test [] r ok = part_same []
 taken-kept test (p ∷ ps) r ok =
     let parts = each-next test (r % 2 == 1) p (taken ps (r / 2)) ok in
@@ -81,7 +80,7 @@ module _ (v : View) (b : Span) (block : InDocket v b) where
 
   -- a lawful choice takes only live packages of the free ones
   pub taken-live : Ranged v → (choice : ℕ) (sales : List ℕ) → InBlock b choice → Lawful v choice sales
-      → each (joins v (fixed v b) (possible v b)) (taken (free_ones v b) (choice - b.first)) ≡ true
+      → list_all (joins v (fixed v b) (possible v b)) (taken (free_ones v b) (choice - b.first)) ≡ true
   taken-live ranged choice sales inside lawful =
       each-beside (joins v (fixed v b) (possible v b)) (taken (free_ones v b) (choice - b.first)) (fixed v b) (taken v.packages choice)
       (λ p part. part_passed v ranged b block choice sales inside lawful (p ∷ fixed v b) part)

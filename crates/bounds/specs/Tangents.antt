@@ -2,7 +2,7 @@
 -- unit no more than its worth and what it pays above that, and no lawful choice takes a free package that is not live.
 use Rattle.std.specs.Prelude.{◌≡◌, ℕ, zero, suc, ◌+◌, ◌-◌, ◌*◌, ◌/◌, ◌%◌, ◌≤◌, Bool, true, false, cond, ◌&&◌, eqb, leb, List, [], ◌∷◌, ◌++◌, map, pos, ◌+ℤ◌, ◌≤ℤ◌, Some, ◌==◌, refl}
 use Rattle.std.proofs.Common.{sym, ap, ◌∙◌, ap₂, mul-le-mul_left, arith}
-use Rattle.std.specs.List.{AllByRecursion as Every, filter}
+use Rattle.std.specs.List.{AllByRecursion as Every, filter, list_all}
 use Rattle.std.proofs.ByRecursion.{All-weaker}
 use Rattle.std.proofs.lemmas.Int.{ints, clamps}
 use Rattle.std.proofs.lemmas.Bool.{true≢false}
@@ -10,9 +10,8 @@ use Rattle.std.proofs.lemmas.Bool.Decides.{nat_tests}
 use Rattle.clearing.specs.declared.dockets.PricedPackage.{PricedPackage}
 use Rattle.clearing.specs.declared.dockets.OpenBand.{OpenBand}
 use Rattle.clearing.specs.Bands.{rising, aheads, true_aheads}
-use Rattle.clearing.specs.Choices.{taken, total, where_so, supplied, supply, cost}
+use Rattle.clearing.specs.Choices.{taken, total, supplied, supply, cost}
 use Rattle.clearing.specs.Lawful.{View, income}
-use Rattle.clearing.specs.Ranges.{each}
 use Rattle.clearing.specs.Sales.{filled}
 use Rattle.clearing.specs.Tallies.{row}
 use Rattle.clearing.proofs.Fits.{OpenRanges}
@@ -23,13 +22,13 @@ use Rattle.clearing.proofs.Incomes.{income-next}
 use Rattle.clearing.proofs.Ranged.{Ranged, filled-most}
 use Rattle.clearing.proofs.Totals.{total-append}
 use Rattle.bounds.specs.Blocks.{Span, InDocket, Claims}
-use Rattle.bounds.specs.Multipliers.{Multipliers, unit_worth, worth, multipliers}
+use Rattle.bounds.specs.Multipliers.{Multipliers, unit_worth, value_at, multipliers}
 use Rattle.bounds.specs.Rules.{fixed, possible, free_ones, joins, live_ones, sold_above, gains_above, tangent_by, tangent}
 use Rattle.bounds.specs.Splits.{taken-kept, each-next, choice-splits, taken-live}
 
 -- one amount at a market's place is worth that many of its units
 worth_one : (l : Multipliers) (market price amount : ℕ) → 1 ≤ market → market ≤ 5
-    → worth l (λ m. where_so (eqb market m && leb 0 price) amount) ≡ amount * unit_worth l market
+    → value_at l (λ m. cond (eqb market m && leb 0 price) amount 0) ≡ amount * unit_worth l market
 worth_one l zero price amount low high = absurd (omega arith)
 worth_one l (suc zero) price amount low high = grind (arith, nat_tests)
 worth_one l (suc (suc zero)) price amount low high = grind (arith, nat_tests)
@@ -39,7 +38,7 @@ worth_one l (suc (suc (suc (suc (suc zero))))) price amount low high = grind (ar
 worth_one l (suc (suc (suc (suc (suc (suc n)))))) price amount low high = absurd (omega arith)
 
 -- two amounts of each market are worth what each is
-worth_plus : (l : Multipliers) (f g h : ℕ → ℕ) → ((m : ℕ) → h m ≡ f m + g m) → worth l h ≡ worth l f + worth l g
+worth_plus : (l : Multipliers) (f g h : ℕ → ℕ) → ((m : ℕ) → h m ≡ f m + g m) → value_at l h ≡ value_at l f + value_at l g
 worth_plus l f g h both = rw (both 1, both 2, both 3, both 4, both 5) (omega arith)
 
 -- what more of a band's units are sold brings no more than their worth and what is paid above that, also where more are counted yet
@@ -62,29 +61,29 @@ record Rises (one two three : List ℕ) (b : OpenBand) : Type 0 where
 module _ (l : Multipliers) (one other most : List ℕ) where
   -- so it is of all bands that are sold more, and most yet
   bands-above : (bs : List OpenBand) → Every (Rises one other most) bs
-      → income bs (map (filled other) bs) + total (λ b. filled one b * unit_worth l b.«record».market) bs
-      ≤ income bs (map (filled one) bs) + sold_above l bs one most + total (λ b. filled other b * unit_worth l b.«record».market) bs
+      → income bs (map (filled other) bs) + total (λ b. filled one b * unit_worth l b.terms.market) bs
+      ≤ income bs (map (filled one) bs) + sold_above l bs one most + total (λ b. filled other b * unit_worth l b.terms.market) bs
   bands-above [] more = omega arith
   bands-above (b ∷ bs) more =
       omega (
         arith,
         income-next b bs (filled one b) (map (filled one) bs) more.0.ranges,
         income-next b bs (filled other b) (map (filled other) bs) more.0.ranges,
-        paid_above (filled one b) (filled other b) (filled most b) b.«record».price (unit_worth l b.«record».market) more.0.more more.0.most,
+        paid_above (filled one b) (filled other b) (filled most b) b.terms.price (unit_worth l b.terms.market) more.0.more more.0.most,
         bands-above bs more.1,
       )
 
 -- what is sold of amounts, band by band, is worth what it is market by market
 worth_sold : (l : Multipliers) (sale : OpenBand → ℕ) (bs : List OpenBand) → Every OpenRanges bs
-    → worth l (λ m. total (λ b. where_so (at_least m 0 b) (sale b)) bs) ≡ total (λ b. sale b * unit_worth l b.«record».market) bs
+    → value_at l (λ m. total (λ b. cond (at_least m 0 b) (sale b) 0) bs) ≡ total (λ b. sale b * unit_worth l b.terms.market) bs
 worth_sold l sale [] ranges = omega arith
 worth_sold l sale (b ∷ bs) ranges =
     let r = ranges.0.of_record in
-    worth_plus l (λ m. where_so (at_least m 0 b) (sale b)) (λ m. total (λ b. where_so (at_least m 0 b) (sale b)) bs) _ (λ m. refl)
-    ∙ ap₂ (λ n k. n + k) (worth_one l b.«record».market b.«record».price (sale b) r.market_least r.market) (worth_sold l sale bs ranges.1)
+    worth_plus l (λ m. cond (at_least m 0 b) (sale b) 0) (λ m. total (λ b. cond (at_least m 0 b) (sale b) 0) bs) _ (λ m. refl)
+    ∙ ap₂ (λ n k. n + k) (worth_one l b.terms.market b.terms.price (sale b) r.market_least r.market) (worth_sold l sale bs ranges.1)
 
 -- amounts that are together no more than others of each market are worth no more
-worth_less : (l : Multipliers) (f g h k : ℕ → ℕ) → ((m : ℕ) → f m + g m ≤ h m + k m) → worth l f + worth l g ≤ worth l h + worth l k
+worth_less : (l : Multipliers) (f g h k : ℕ → ℕ) → ((m : ℕ) → f m + g m ≤ h m + k m) → value_at l f + value_at l g ≤ value_at l h + value_at l k
 worth_less l f g h k less =
     let at = λ (m : ℕ). mul-le-mul_left (unit_worth l m) (less m) in
     omega (arith, at 1, at 2, at 3, at 4, at 5)
@@ -92,23 +91,23 @@ worth_less l f g h k less =
 -- a band is sold no less of a greater supply
 filled_more : (b : OpenBand) → OpenRanges b → (t s : ℕ → ℕ) → ((m : ℕ) → t m ≤ s m) → filled (row t 1 5) b ≤ filled (row s 1 5) b
 filled_more b r t s less =
-    let here = λ (amount : ℕ → ℕ). row_getD amount 1 5 (b.«record».market - 1) 0 (omega (arith, r.of_record.market)) in
-    omega (arith, here t, here s, less (1 + (b.«record».market - 1)))
+    let here = λ (amount : ℕ → ℕ). row_getD amount 1 5 (b.terms.market - 1) 0 (omega (arith, r.of_record.market)) in
+    omega (arith, here t, here s, less (1 + (b.terms.market - 1)))
 
 module _ (l : Multipliers) (bs : List OpenBand) (rise : rising bs ≡ true) (ahead : aheads bs ≡ true_aheads bs) (ranges : Every OpenRanges bs)
     (t s u : ℕ → ℕ) (more : (m : ℕ) → t m ≤ s m) (most : (m : ℕ) → s m ≤ u m) where
   -- what is sold of amounts in a market
   abbrev sold_of : (ℕ → ℕ) → ℕ → ℕ
-  sold_of amount m = total (λ b. where_so (at_least m 0 b) (filled (row amount 1 5) b)) bs
+  sold_of amount m = total (λ b. cond (at_least m 0 b) (filled (row amount 1 5) b) 0) bs
 
   -- no more is sold beyond the smaller amounts than there is beyond them
   sold-beyond : (m : ℕ) → sold_of s m + t m ≤ sold_of t m + s m
   sold-beyond m =
-      let all = λ (amount : ℕ → ℕ). sym (over-map (λ b n. where_so (at_least m 0 b) n) (filled (row amount 1 5)) bs) ∙ filled-front bs amount rise ahead ranges m 0 in
+      let all = λ (amount : ℕ → ℕ). sym (over-map (λ b n. cond (at_least m 0 b) n 0) (filled (row amount 1 5)) bs) ∙ filled-front bs amount rise ahead ranges m 0 in
       omega (arith, all s, all t, more m)
 
   -- so it brings no more than it is worth and what is paid above that
-  income-above : income bs (filled_of s bs) + worth l t ≤ income bs (filled_of t bs) + sold_above l bs (row t 1 5) (row u 1 5) + worth l s
+  income-above : income bs (filled_of s bs) + value_at l t ≤ income bs (filled_of t bs) + sold_above l bs (row t 1 5) (row u 1 5) + value_at l s
   income-above =
       let parts : Every (Rises (row t 1 5) (row s 1 5) (row u 1 5)) bs =
       All-weaker _ _ (λ b r. record { ranges = r; more = filled_more b r t s more; most = filled_more b r s u most }) bs ranges in
@@ -123,17 +122,17 @@ cost-append (x ∷ xs) ys = omega (arith, ints, cost-append xs ys)
 module _ (l : Multipliers) (test : PricedPackage → Bool) where
   -- one package more gains no more than what is above 0 of its gain, and is counted where it is taken
   gain-next : (one keep : Bool) (p : PricedPackage) (xs ys : List PricedPackage) → (one ≡ true → keep ≡ true)
-      → pos (worth l (λ m. supply m xs)) ≤ℤ (cost xs +ℤ gains_above l ys)
-      → pos (worth l (λ m. supply m (cond one (p ∷ xs) xs))) ≤ℤ (cost (cond one (p ∷ xs) xs) +ℤ gains_above l (cond keep (p ∷ ys) ys))
+      → pos (value_at l (λ m. supply m xs)) ≤ℤ (cost xs +ℤ gains_above l ys)
+      → pos (value_at l (λ m. supply m (cond one (p ∷ xs) xs))) ≤ℤ (cost (cond one (p ∷ xs) xs) +ℤ gains_above l (cond keep (p ∷ ys) ys))
   gain-next true true p xs ys so rest =
-      omega (arith, ints, clamps, rest, worth_plus l (λ m. supplied m p.«record») (λ m. supply m xs) (λ m. supply m (p ∷ xs)) (λ m. refl))
+      omega (arith, ints, clamps, rest, worth_plus l (λ m. supplied m p.terms) (λ m. supply m xs) (λ m. supply m (p ∷ xs)) (λ m. refl))
   gain-next true false p xs ys so rest = absurd (true≢false (sym (so refl)))
   gain-next false true p xs ys so rest = omega (arith, ints, clamps, rest)
   gain-next false false p xs ys so rest = rest
 
   -- what is taken, if all of it passes, is worth no more than it costs and what all that pass gain above 0
-  gains-most : (ps : List PricedPackage) (r : ℕ) → each test (taken ps r) ≡ true
-      → pos (worth l (λ m. supply m (taken ps r))) ≤ℤ (cost (taken ps r) +ℤ gains_above l (filter test ps))
+  gains-most : (ps : List PricedPackage) (r : ℕ) → list_all test (taken ps r) ≡ true
+      → pos (value_at l (λ m. supply m (taken ps r))) ≤ℤ (cost (taken ps r) +ℤ gains_above l (filter test ps))
   gains-most [] r ok = omega (arith, ints)
   gains-most (p ∷ ps) r ok =
       let parts = each-next test (r % 2 == 1) p (taken ps (r / 2)) ok in
@@ -147,11 +146,11 @@ module _ (l : Multipliers) (v : View) (ranged : Ranged v) (b : Span) (block : In
       let live = taken-live v b block ranged choice sales inside lawful in
       let splits = choice-splits v b block choice inside in
       let part = taken-kept (joins v (fixed v b) (possible v b)) (free_ones v b) (choice - b.first) live in
-      let supplies = λ (m : ℕ). ap (supply m) splits ∙ total-append (λ p. supplied m p.«record») free (fixed v b) in
+      let supplies = λ (m : ℕ). ap (supply m) splits ∙ total-append (λ p. supplied m p.terms) free (fixed v b) in
       let income =
       income-above l v.bands ranged.order.numbers ranged.order.ahead (ranges_of v.bands ranged.bands)
       (λ m. supply m (fixed v b)) (λ m. supply m (taken v.packages choice)) (λ m. supply m (fixed v b) + supply m (live_ones v b))
-      (λ m. omega (arith, supplies m)) (λ m. omega (arith, supplies m, part.less (λ p. supplied m p.«record»))) in
+      (λ m. omega (arith, supplies m)) (λ m. omega (arith, supplies m, part.less (λ p. supplied m p.terms))) in
       let worths = worth_plus l (λ m. supply m free) (λ m. supply m (fixed v b)) (λ m. supply m (taken v.packages choice)) supplies in
       let costs = ap cost splits ∙ cost-append free (fixed v b) in
       let gains = gains-most l (joins v (fixed v b) (possible v b)) (free_ones v b) (choice - b.first) live in

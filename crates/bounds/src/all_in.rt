@@ -1,5 +1,5 @@
-// A cap by taking all that is free: its income whole, and of its prices only those that are negative.
-ghost use Rattle.std.specs.Prelude.{◌≡◌, pos, negsuc, ◌+ℤ◌, ◌≤ℤ◌};
+//! A cap by taking all that is free: its income whole, and of its prices only those that are negative.
+ghost use Rattle.std.specs.Prelude.{◌≡◌, pos, ◌+ℤ◌, ◌≤ℤ◌, neg_ℤ};
 ghost use Rattle.clearing.specs.Choices.{cost};
 ghost use Rattle.clearing.specs.Lawful.{view};
 ghost use Rattle.bounds.specs.Blocks.{span};
@@ -8,9 +8,7 @@ ghost use Rattle.clearing.proofs.ClosedRanges.{ranged-closing};
 ghost use Rattle.bounds.specs.Caps.{all_in-sound};
 
 use crate::blocks::{Block, BoundingRule};
-use clearing::dockets::Docket;
-use clearing::sales::sell;
-use clearing::tallies::Tally;
+use clearing::{Docket, Tally, sell};
 
 #[derive(Clone, Copy)]
 pub struct AllIn;
@@ -21,7 +19,7 @@ impl BoundingRule for AllIn {
     ghost sound = { λ s v b closed block. all_in-sound v (ranged-closing v closed) b block };
 
     fn consult(&mut self, docket: &Docket, block: Block) -> Option<i64> {
-        let all = Tally::of(docket, block.last());
+        let all = Tally::new(docket, block.last());
         let sales = sell(docket, &all.supply);
         Some(sales.income as i64 - least_cost(docket, block))
     }
@@ -30,7 +28,7 @@ impl BoundingRule for AllIn {
 // The prices of the taken packages, and of the free ones those below 0, in pesos.
 fn least_cost(docket: &Docket, block: Block) -> i64
     ensures value { result ≡ cost (fixed (view docket.now) (span block)) +ℤ below_zero (free_ones (view docket.now) (span block)) }
-    ensures low { negsuc 1599999999999 ≤ℤ result }
+    ensures low { neg_ℤ (pos 1600000000000) ≤ℤ result }
     ensures high { result ≤ℤ pos 800000000000 }
 {
     // loops: the library's lemmas on what a `sum` stays within are of unsigned numbers

@@ -1,9 +1,9 @@
-// A block of choices, and what every bounding rule owes.
+//! A block of choices, and what every bounding rule owes.
 ghost use Rattle.std.specs.Prelude.{◌≡◌, ◌^◌, ◌<◌, ◌≤◌};
 
-use clearing::dockets::Docket;
+use clearing::Docket;
 
-// The choices that differ from the first in its lowest digits only: as many as are free, 0 in it.
+/// The choices that differ from the first in its lowest digits only: as many as are free, 0 in it.
 #[derive(Clone, Copy)]
 pub struct Block {
     pub first: u64,
@@ -16,7 +16,7 @@ impl Block {
     ghost use Rattle.bounds.specs.Blocks.{span};
     ghost use Rattle.bounds.specs.Rules.{last_of};
 
-    // The choice of the block that takes all free packages.
+    /// The choice of the block that takes all free packages.
     pub fn last(self) -> u64
         ensures { result ≡ last_of (span self) }
     {
@@ -24,12 +24,12 @@ impl Block {
     }
 }
 
-// No surplus of any docket comes near this many pesos.
+/// No surplus of any docket comes near this many pesos.
 pub const CEILING: i64 = 100_000_000_000_000_000;
 
-// A bounding rule means one answer for each docket and block of it: a cap in pesos, at least the surplus of every lawful
-// choice in the block, or `None`: there is no lawful choice in it. It may keep what it worked out, but not change its
-// meaning.
+/// A bounding rule means one answer for each docket and block of it: a cap in pesos, at least the surplus of every lawful
+/// choice in the block, or `None`: there is no lawful choice in it. It may keep what it worked out, but not change its
+/// meaning.
 pub trait BoundingRule {
     ghost use Rattle.clearing.specs.Lawful.{view};
     ghost use Rattle.bounds.specs.Blocks.{span, Answers, SoundRule, InDocket};

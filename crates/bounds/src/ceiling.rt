@@ -1,10 +1,10 @@
-// A cap that no surplus reaches: the rule that skips nothing.
+//! A cap that no surplus reaches: the rule that skips nothing.
 ghost use Rattle.bounds.specs.Rules.{always};
 ghost use Rattle.clearing.proofs.ClosedRanges.{ranged-closing};
 ghost use Rattle.bounds.specs.Caps.{always-sound};
 
 use crate::blocks::{Block, BoundingRule, CEILING};
-use clearing::dockets::Docket;
+use clearing::Docket;
 
 #[derive(Clone, Copy)]
 pub struct Ceiling;

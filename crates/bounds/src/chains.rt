@@ -1,12 +1,12 @@
-// Any number of rules as one: no lawful choice if any says so, else the smallest cap.
+//! Any number of rules as one: no lawful choice if any says so, else the smallest cap.
 ghost use Rattle.std.specs.Prelude.{map};
 ghost use Rattle.bounds.specs.Rules.{chained};
 ghost use Rattle.bounds.specs.Chains.{chained-sound};
 
 use crate::blocks::{Block, BoundingRule};
-use clearing::dockets::Docket;
+use clearing::Docket;
 
-// Rules joined from the left: the first, and those joined to it one after another.
+/// Rules joined from the left: the first, and those joined to it one after another.
 #[derive(Drop)]
 pub struct Chain<B> {
     pub first: B,

@@ -1,9 +1,9 @@
-// Two rules as one: no lawful choice if either says so, else the smaller cap.
+//! Two rules as one: no lawful choice if either says so, else the smaller cap.
 ghost use Rattle.bounds.specs.Rules.{smaller};
 ghost use Rattle.bounds.specs.Caps.{smaller-sound};
 
 use crate::blocks::{Block, BoundingRule};
-use clearing::dockets::Docket;
+use clearing::Docket;
 
 #[derive(Clone, Copy)]
 pub struct Joined<P, Q>(pub P, pub Q);

@@ -1,10 +1,11 @@
-// Which free packages of a block count: those that could be taken with the fixed ones. No lawful choice of the block takes another.
+//! Which free packages of a block count: those that could be taken with the fixed ones. No lawful choice of the block takes another.
+ghost use Rattle.std.specs.List.{list_all};
 ghost use Rattle.std.specs.Prelude.{◌≡◌, true, nat_le};
 ghost use Rattle.offers.specs.Marks.{sort_byte};
 ghost use Rattle.offers.specs.Tables.{package_layout};
 ghost use Rattle.clearing.specs.Choices.{taken};
 ghost use Rattle.clearing.specs.Lawful.{view};
-ghost use Rattle.clearing.specs.Ranges.{each, fits};
+ghost use Rattle.clearing.specs.Ranges.{fits};
 ghost use Rattle.clearing.specs.Tallies.{row};
 ghost use Rattle.bounds.specs.Blocks.{span, InDocket};
 ghost use Rattle.bounds.specs.Rules.{live_ones};
@@ -12,20 +13,18 @@ ghost use Rattle.bounds.specs.Live.{cleared, head, needs, unopposed, tightest, r
 
 use crate::blocks::Block;
 use crate::limits::stands;
-use clearing::dockets::Docket;
-use clearing::tallies::Tally;
-use offers::marks::Sort;
-use offers::records::Package;
+use clearing::{Docket, Tally};
+use offers::{Package, Sort};
 
 // More than the packages of any docket have in a zone.
 const UNLIMITED: u64 = 1_000_000_000_000;
 
-// The choice that takes just them.
+/// The choice that takes just them.
 pub(crate) fn live_choice(docket: &Docket, block: Block) -> u64
     ensures { InDocket (view docket.now) (span block) → taken docket.now.packages.list.items result ≡ live_ones (view docket.now) (span block) }
 {
-    let fixed = Tally::of(docket, block.first);
-    let possible = Tally::of(docket, block.last());
+    let fixed = Tally::new(docket, block.first);
+    let possible = Tally::new(docket, block.last());
     if !stands(docket, &fixed, &possible) {
         return 0;
     }
@@ -39,7 +38,7 @@ pub(crate) fn live_choice(docket: &Docket, block: Block) -> u64
         if place < block.free as usize
             && met[number]
             && apart[number]
-            && has_room(&interconnection, &export, &fixed, &package.record)
+            && has_room(&interconnection, &export, &fixed, &package.terms)
         {
             live += 1u64 << place;
         }
@@ -103,20 +102,15 @@ fn tightest(docket: &Docket, sort: Sort) -> [u64; 16]
 }
 
 // Whether the zones of a package have room for it beside the taken ones.
-fn has_room(
-    interconnection: &[u64; 16],
-    export: &[u64; 16],
-    taken: &Tally,
-    package: &Package,
-) -> bool
-    requires fits { fits package_layout «package».now ≡ true }
-    requires nameplate { each (λ n. nat_le n 400000000) taken.now.nameplate ≡ true }
-    requires export { each (λ n. nat_le n 400000000) taken.now.export ≡ true }
-    ensures { result ≡ room interconnection.now export.now taken.now «package».now }
+fn has_room(interconnection: &[u64; 16], export: &[u64; 16], taken: &Tally, terms: &Package) -> bool
+    requires fits { fits package_layout terms.now ≡ true }
+    requires nameplate { list_all (λ n. nat_le n 400000000) taken.now.nameplate ≡ true }
+    requires export { list_all (λ n. nat_le n 400000000) taken.now.export ≡ true }
+    ensures { result ≡ room interconnection.now export.now taken.now terms.now }
 {
-    let from = package.interconnection_zone as usize - 1;
-    let to = package.export_zone as usize - 1;
-    package.unqualified != 1
-        || taken.nameplate[from] + package.nameplate as u64 <= interconnection[from]
-            && taken.export[to] + package.energy as u64 <= export[to]
+    let from = terms.interconnection_zone as usize - 1;
+    let to = terms.export_zone as usize - 1;
+    terms.unqualified != 1
+        || taken.nameplate[from] + terms.nameplate as u64 <= interconnection[from]
+            && taken.export[to] + terms.energy as u64 <= export[to]
 }

@@ -1,36 +1,36 @@
-// The multipliers of a block: what a unit of each market is taken to be worth, found by halving between what the bands pay when all is
-// supplied and when only the fixed packages are.
-ghost use Rattle.std.specs.Prelude.{◌≡◌, ◌+◌, ◌-◌, ◌/◌, ◌≤◌, true, false, cond, nat_le, nat_lt, pos, negsuc, ◌≤ℤ◌, slice_index, slice_index_or};
+//! The multipliers of a block: what a unit of each market is taken to be worth, found by halving between what the bands pay when all is
+//! supplied and when only the fixed packages are.
+ghost use Rattle.std.specs.List.{list_all};
+ghost use Rattle.std.specs.Prelude.{◌≡◌, ◌+◌, ◌-◌, ◌/◌, ◌≤◌, true, false, nat_le, nat_lt, pos, ◌≤ℤ◌, slice_index, slice_index_or, if◌then◌else◌, neg_ℤ};
 ghost use Rattle.offers.specs.Tables.{package_layout};
 ghost use Rattle.clearing.specs.Choices.{taken, supplied, supply};
 ghost use Rattle.clearing.specs.Lawful.{view};
-ghost use Rattle.clearing.specs.Ranges.{each, fits, package_fits};
+ghost use Rattle.clearing.specs.Ranges.{fits, package_fits};
 ghost use Rattle.clearing.specs.Tallies.{row, plus};
 ghost use Rattle.bounds.specs.Blocks.{span};
-ghost use Rattle.bounds.specs.Multipliers.{worth, gain, gainful, asked_above, price_at, unit_worth, middle, narrowed, beginning, multipliers};
+ghost use Rattle.bounds.specs.Multipliers.{value_at, gain, gainful, asked_above, price_at, unit_worth, middle, narrowed, widest, multipliers};
 ghost use Rattle.bounds.specs.Rules.{fixed};
 
 use crate::blocks::Block;
-use clearing::dockets::{Docket, PricedPackage};
-use clearing::tallies::{CERTIFICATES, ENERGY, supply_of};
-use offers::records::Package;
+use clearing::{CERTIFICATES, Docket, ENERGY, PricedPackage, supply_of};
+use offers::Package;
 
 // How often the multipliers are halved.
 const TURNS: u8 = 6;
 
-// Between which pesos the multipliers are looked for, market m at place m - 1.
+/// Between which pesos the multipliers are looked for, market m at place m - 1.
 #[derive(Clone, Copy)]
 pub struct Between {
     pub low: [u32; 5],
     pub high: [u32; 5],
 }
 
-// The multipliers of a block, whose fixed packages supply `base`, and where `live` is the choice of those of its free packages that
-// count.
+/// The multipliers of a block, whose fixed packages supply `base`, and where `live` is the choice of those of its free packages that
+/// count.
 pub(crate) fn multipliers(docket: &Docket, block: Block, base: &[u64; 5], live: u64) -> [u32; 5]
     requires { base.now ≡ row (λ m. supply m (fixed (view docket.now) (span block))) 1 5 }
     ensures value { result ≡ multipliers docket.now.bands.list.items (fixed (view docket.now) (span block)) (taken docket.now.packages.list.items live) }
-    ensures range { each (λ n. nat_le n 10000000) result ≡ true }
+    ensures range { list_all (λ n. nat_le n 10000000) result ≡ true }
 {
     let mut between = Between::beginning(docket, block, base, live);
     for _turn in 0..TURNS {
@@ -43,7 +43,7 @@ impl Between {
     // What the first band pays that is not filled by all, and by the fixed alone.
     fn beginning(docket: &Docket, block: Block, base: &[u64; 5], live: u64) -> Between
         requires { base.now ≡ row (λ m. supply m (fixed (view docket.now) (span block))) 1 5 }
-        ensures { result ≡ beginning docket.now.bands.list.items (fixed (view docket.now) (span block)) (taken docket.now.packages.list.items live) }
+        ensures { result ≡ widest docket.now.bands.list.items (fixed (view docket.now) (span block)) (taken docket.now.packages.list.items live) }
     {
         let free = supply_of(docket, live);
         let all = together(base, &free);
@@ -91,7 +91,7 @@ fn half_way(low: u32, high: u32) -> u32
 
 // Of each market the one number where a test holds, else the other.
 fn either(tests: &[bool; 5], yes: &[u32; 5], no: &[u32; 5]) -> [u32; 5]
-    ensures { result ≡ row (λ m. cond (slice_index_or tests.now (m - 1) false) (unit_worth yes.now m) (unit_worth no.now m)) 1 5 }
+    ensures { result ≡ row (λ m. if slice_index_or tests.now (m - 1) false then unit_worth yes.now m else unit_worth no.now m) 1 5 }
 {
     [
         pick(tests[0], yes[0], no[0]),
@@ -103,15 +103,15 @@ fn either(tests: &[bool; 5], yes: &[u32; 5], no: &[u32; 5]) -> [u32; 5]
 }
 
 fn pick(test: bool, yes: u32, no: u32) -> u32
-    ensures { result ≡ cond test yes no }
+    ensures { result ≡ (if test then yes else no) }
 {
     if test { yes } else { no }
 }
 
-// Two supplies of each market as one.
+/// Two supplies of each market as one.
 pub(crate) fn together(one: &[u64; 5], other: &[u64; 5]) -> [u64; 5]
-    requires one { each (λ n. nat_le n 400000000) one.now ≡ true }
-    requires other { each (λ n. nat_le n 400000000) other.now ≡ true }
+    requires one { list_all (λ n. nat_le n 400000000) one.now ≡ true }
+    requires other { list_all (λ n. nat_le n 400000000) other.now ≡ true }
     ensures { result ≡ plus one.now other.now }
 {
     [
@@ -130,10 +130,10 @@ fn prices_at(docket: &Docket, amounts: &[u64; 5]) -> [u32; 5]
 {
     let mut prices = [0u32; 5];
     for band in docket.bands.list.iter() {
-        let market = band.record.market as usize - 1;
-        let total = band.ahead + band.record.quantity as u64;
+        let market = band.terms.market as usize - 1;
+        let total = band.ahead + band.terms.quantity as u64;
         if amounts[market] < total {
-            prices[market] = prices[market].max(band.record.price);
+            prices[market] = prices[market].max(band.terms.price);
         }
     }
     prices
@@ -159,9 +159,9 @@ fn asked_above(docket: &Docket, multipliers: &[u32; 5]) -> [u64; 5]
 {
     let mut asked = [0u64; 5];
     for band in docket.bands.list.iter() {
-        let market = band.record.market as usize - 1;
-        if multipliers[market] < band.record.price {
-            asked[market] += band.record.quantity as u64;
+        let market = band.terms.market as usize - 1;
+        if multipliers[market] < band.terms.price {
+            asked[market] += band.terms.quantity as u64;
         }
     }
     asked
@@ -183,23 +183,23 @@ fn gainful_choice(docket: &Docket, multipliers: &[u32; 5], choice: u64) -> u64
 }
 
 // What a package's supplies are worth, in pesos.
-fn worth(multipliers: &[u32; 5], package: &Package) -> u64
-    requires { fits package_layout «package».now ≡ true }
-    ensures value { result ≡ worth multipliers.now (λ m. supplied m «package».now) }
+fn worth(multipliers: &[u32; 5], terms: &Package) -> u64
+    requires { fits package_layout terms.now ≡ true }
+    ensures value { result ≡ value_at multipliers.now (λ m. supplied m terms.now) }
     ensures bound { result ≤ 90000000000000000 }
 {
-    let power = multipliers[package.power_zone as usize - 1] as u64 * package.power as u64;
-    let energy = multipliers[ENERGY - 1] as u64 * package.energy as u64;
-    let certificates = multipliers[CERTIFICATES - 1] as u64 * package.certificates as u64;
+    let power = multipliers[terms.power_zone as usize - 1] as u64 * terms.power as u64;
+    let energy = multipliers[ENERGY - 1] as u64 * terms.energy as u64;
+    let certificates = multipliers[CERTIFICATES - 1] as u64 * terms.certificates as u64;
     power + energy + certificates
 }
 
-// What a package's supplies are worth above its price, in pesos.
-pub(crate) fn gain(multipliers: &[u32; 5], package: &PricedPackage) -> i64
-    requires { package_fits «package».now ≡ true }
-    ensures value { result ≡ gain multipliers.now «package».now }
-    ensures low { negsuc 99999999999 ≤ℤ result }
+/// What a package's supplies are worth above its price, in pesos.
+pub(crate) fn gain(multipliers: &[u32; 5], priced: &PricedPackage) -> i64
+    requires { package_fits priced.now ≡ true }
+    ensures value { result ≡ gain multipliers.now priced.now }
+    ensures low { neg_ℤ (pos 100000000000) ≤ℤ result }
     ensures high { result ≤ℤ pos 100000000000000000 }
 {
-    worth(multipliers, &package.record) as i64 - package.price
+    worth(multipliers, &priced.terms) as i64 - priced.price
 }

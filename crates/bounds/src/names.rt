@@ -1,4 +1,4 @@
-// The rules that stand by themselves, by name.
+//! The rules that stand by themselves, by name.
 ghost use Rattle.bounds.specs.Rules.{named};
 ghost use Rattle.bounds.specs.Chains.{named-sound};
 
@@ -9,9 +9,9 @@ use crate::limits::Limits;
 use crate::one_by_one::OneByOne;
 use crate::shares::Shares;
 use crate::tangent::Tangent;
-use clearing::dockets::Docket;
+use clearing::Docket;
 
-// A rule that a name picks.
+/// A rule that a name picks.
 #[derive(Clone, Copy, PartialEq, Eq, Debug)]
 pub enum Named {
     Ceiling,
@@ -43,10 +43,8 @@ impl BoundingRule for Named {
 mod tests {
     use super::*;
     use crate::blocks::CEILING;
-    use offers::memory::{Offer, Offers};
-    use offers::records::{Band, Exclusion, Limit, Package, Pair};
-    use offers::refusals::Refusal;
-    use pricing::filed::Filed;
+    use offers::{Band, Exclusion, Limit, Offer, Offers, Package, Pair, Refusal};
+    use pricing::Filed;
     use std::process::Abort;
     use std::test::*;
 

@@ -1,14 +1,12 @@
-// A cap by what each free package alone would add: together they add no more.
-ghost use Rattle.std.specs.Prelude.{◌≡◌, pos, negsuc, ◌≤ℤ◌};
+//! A cap by what each free package alone would add: together they add no more.
+ghost use Rattle.std.specs.Prelude.{◌≡◌, pos, ◌≤ℤ◌, neg_ℤ};
 ghost use Rattle.clearing.specs.Lawful.{view};
 ghost use Rattle.bounds.specs.Rules.{one_by_one, unlimited};
 ghost use Rattle.clearing.proofs.ClosedRanges.{ranged-closing};
 ghost use Rattle.bounds.specs.Gains.{one_by_one-sound};
 
 use crate::blocks::{Block, BoundingRule};
-use clearing::dockets::Docket;
-use clearing::sales::sell;
-use clearing::tallies::Tally;
+use clearing::{Docket, Tally, sell};
 
 #[derive(Clone, Copy)]
 pub struct OneByOne;
@@ -33,10 +31,10 @@ impl BoundingRule for OneByOne {
 // The surplus in pesos of a choice with filled sales, lawful or not.
 fn unlimited_surplus(docket: &Docket, choice: u64) -> i64
     ensures value { result ≡ unlimited (view docket.now) choice }
-    ensures low { negsuc 799999999999 ≤ℤ result }
+    ensures low { neg_ℤ (pos 800000000000) ≤ℤ result }
     ensures high { result ≤ℤ pos 64000800000000000 }
 {
-    let taken = Tally::of(docket, choice);
+    let taken = Tally::new(docket, choice);
     let sales = sell(docket, &taken.supply);
     sales.income as i64 - taken.cost
 }

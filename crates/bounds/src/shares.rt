@@ -1,12 +1,11 @@
-// No choice of a block is lawful where what is dated of the packages that it takes for certain is above its percentage of the most
-// that any of its choices can sell.
+//! No choice of a block is lawful where what is dated of the packages that it takes for certain is above its percentage of the most
+//! that any of its choices can sell.
 ghost use Rattle.bounds.specs.Rules.{shares_kept};
 ghost use Rattle.clearing.proofs.ClosedRanges.{ranged-closing};
 ghost use Rattle.bounds.specs.Caps.{shares-sound};
 
 use crate::blocks::{Block, BoundingRule, CEILING};
-use clearing::dockets::Docket;
-use clearing::lawful::dates_stand;
+use clearing::{Docket, dates_stand};
 
 #[derive(Clone, Copy)]
 pub struct Shares;

@@ -1,5 +1,5 @@
-// A cap by multipliers, with what a unit of each market is taken to be worth: sound whatever that is, and small where it is near what
-// the bands pay.
+//! A cap by multipliers, with what a unit of each market is taken to be worth: sound whatever that is, and small where it is near what
+//! the bands pay.
 ghost use Rattle.std.specs.Prelude.{◌≡◌, ◌≤◌, pos, ◌≤ℤ◌};
 ghost use Rattle.clearing.specs.Choices.{taken};
 ghost use Rattle.clearing.specs.Lawful.{view};
@@ -12,9 +12,7 @@ ghost use Rattle.bounds.specs.Tangents.{tangent-sound};
 use crate::blocks::{Block, BoundingRule};
 use crate::live::live_choice;
 use crate::multipliers::{gain, multipliers, together};
-use clearing::dockets::Docket;
-use clearing::sales::{sale_at, sell};
-use clearing::tallies::{Tally, supply_of};
+use clearing::{Docket, Tally, sale_at, sell, supply_of};
 
 #[derive(Clone, Copy)]
 pub struct Tangent;
@@ -25,15 +23,15 @@ impl BoundingRule for Tangent {
     ghost sound = { λ s v b closed block. tangent-sound v (ranged-closing v closed) b block };
 
     fn consult(&mut self, docket: &Docket, block: Block) -> Option<i64> {
-        let first = Tally::of(docket, block.first);
+        let first = Tally::new(docket, block.first);
         let live = live_choice(docket, block);
         let worths = multipliers(docket, block, &first.supply, live);
         Some(cap(docket, block, &first, live, &worths))
     }
 }
 
-// The cap of a block by any multipliers, where `live` is the choice of those of its free packages that count, and its first choice comes
-// to `first`.
+/// The cap of a block by any multipliers, where `live` is the choice of those of its free packages that count, and its first choice comes
+/// to `first`.
 pub(crate) fn cap(
     docket: &Docket,
     block: Block,
@@ -60,8 +58,8 @@ fn sold_above(docket: &Docket, multipliers: &[u32; 5], less: &[u64; 5], more: &[
     let mut above = 0u64;
     for (place, band) in docket.bands.list.iter().enumerate() {
         let sold = sale_at(docket, more, place).saturating_sub(sale_at(docket, less, place));
-        let worth = multipliers[band.record.market as usize - 1];
-        above += sold * band.record.price.saturating_sub(worth) as u64;
+        let worth = multipliers[band.terms.market as usize - 1];
+        above += sold * band.terms.price.saturating_sub(worth) as u64;
     }
     above
 }

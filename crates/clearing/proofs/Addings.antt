@@ -6,7 +6,7 @@ use Rattle.std.proofs.lemmas.Bool.Decides.{nat_tests}
 use Rattle.offers.specs.declared.records.Package.{Package}
 use Rattle.clearing.specs.declared.dockets.PricedPackage.{PricedPackage}
 use Rattle.clearing.specs.declared.tallies.Tally.{Tally}
-use Rattle.clearing.specs.Choices.{where_so, supplied}
+use Rattle.clearing.specs.Choices.{supplied}
 use Rattle.clearing.specs.Tallies.{row, plus, added, Room}
 use Rattle.clearing.proofs.Fits.{PackageRanges, PricedRanges}
 use Rattle.clearing.proofs.Rows.{row_same, plus_where, plus_one, plus-plus, length-plus, where_both}
@@ -14,7 +14,7 @@ use Rattle.clearing.proofs.Tallying.{tally_same}
 
 -- what a package supplies to a market, as three amounts of which at most one counts
 supplied_parts : (m : ℕ) (p : Package) → p.power_zone ≤ 3
-    → where_so (eqb p.power_zone m) p.power + (where_so (eqb 4 m) p.energy + where_so (eqb 5 m) p.certificates) ≡ supplied m p
+    → cond (eqb p.power_zone m) p.power 0 + (cond (eqb 4 m) p.energy 0 + cond (eqb 5 m) p.certificates 0) ≡ supplied m p
 supplied_parts m p h = grind (arith, nat_tests)
 
 -- each supply of a package is added at its market's place
@@ -24,9 +24,9 @@ pub supply-added : (s : List ℕ) (p : Package) → length s ≡ 5 → PackageRa
     set energy 4 (get_or energy 4 0 + p.certificates)) ≡ plus s (row (λ m. supplied m p) 1 5)
 supply-added s p long r =
     let zone = p.power_zone in
-    let in-power = λ (m : ℕ). where_so (eqb zone m) p.power in
-    let in-energy = λ (m : ℕ). where_so (eqb 4 m) p.energy in
-    let in-certificates = λ (m : ℕ). where_so (eqb 5 m) p.certificates in
+    let in-power = λ (m : ℕ). cond (eqb zone m) p.power 0 in
+    let in-energy = λ (m : ℕ). cond (eqb 4 m) p.energy 0 in
+    let in-certificates = λ (m : ℕ). cond (eqb 5 m) p.certificates 0 in
     let first = plus s (row in-power 1 5) in
     let second = plus first (row in-energy 1 5) in
     let first-long = length-plus s in-power 1 5 long in
@@ -74,7 +74,7 @@ with_after xs t = record {
 module _ (t : Tally) (p : PricedPackage) where
   -- what the package supplies to each market
   abbrev pub supplies : List ℕ
-  supplies = row (λ m. supplied m p.«record») 1 5
+  supplies = row (λ m. supplied m p.terms) 1 5
 
   -- the cost as it is stored
   abbrev stored_cost : ℤ
@@ -102,15 +102,15 @@ module _ (t : Tally) (p : PricedPackage) where
 
   -- a row with the package's supplies where it has this date
   abbrev pub on_date : ℕ → List ℕ → List ℕ
-  on_date date xs = cond (eqb p.«record».date date) (plus xs supplies) xs
+  on_date date xs = cond (eqb p.terms.date date) (plus xs supplies) xs
 
   -- where it has, a row with them added
-  pub dated_yes : (date : ℕ) (xs ys : List ℕ) → p.«record».date ≡ date → ys ≡ plus xs supplies → ys ≡ on_date date xs
-  dated_yes date xs ys is e = e ∙ sym (cond-true (eqb p.«record».date date) _ _ (eq-eqb p.«record».date date is))
+  pub dated_yes : (date : ℕ) (xs ys : List ℕ) → p.terms.date ≡ date → ys ≡ plus xs supplies → ys ≡ on_date date xs
+  dated_yes date xs ys is e = e ∙ sym (cond-true (eqb p.terms.date date) _ _ (eq-eqb p.terms.date date is))
 
   -- where it has not, the row as it was
-  pub dated_no : (date : ℕ) (xs : List ℕ) → (p.«record».date ≡ date → ⊥) → xs ≡ on_date date xs
-  dated_no date xs not = sym (cond-false (eqb p.«record».date date) _ _ (ne_eqb p.«record».date date not))
+  pub dated_no : (date : ℕ) (xs : List ℕ) → (p.terms.date ≡ date → ⊥) → xs ≡ on_date date xs
+  dated_no date xs not = sym (cond-false (eqb p.terms.date date) _ _ (ne_eqb p.terms.date date not))
 
   -- all sums but those of zones
   abbrev pub dated_too : Tally
@@ -127,12 +127,12 @@ module _ (t : Tally) (p : PricedPackage) where
 
   -- adding at the place of a zone, where a package without priority counts
   zone-added : (xs : List ℕ) (zone amount : ℕ) → length xs ≡ 16 → 1 ≤ zone → zone ≤ 16
-      → plus xs (row (λ z. where_so (eqb p.«record».unqualified 1 && eqb zone z) amount + 0) 1 16)
-      ≡ cond (eqb p.«record».unqualified 1) (set xs (zone - 1) (get_or xs (zone - 1) 0 + amount)) xs
+      → plus xs (row (λ z. cond (eqb p.terms.unqualified 1 && eqb zone z) amount 0 + 0) 1 16)
+      ≡ cond (eqb p.terms.unqualified 1) (set xs (zone - 1) (get_or xs (zone - 1) 0 + amount)) xs
   zone-added xs zone amount long low high =
-      let b = eqb p.«record».unqualified 1 in
-      ap (plus xs) (row_same _ (λ z. where_so b (where_so (eqb zone z) amount) + 0) 1 16 (λ z h. ap (λ n. n + 0) (where_both b (eqb zone z) amount)))
-      ∙ plus_where b xs (λ z. where_so (eqb zone z) amount) 1 16 long
+      let b = eqb p.terms.unqualified 1 in
+      ap (plus xs) (row_same _ (λ z. cond b (cond (eqb zone z) amount 0) 0 + 0) 1 16 (λ z h. ap (λ n. n + 0) (where_both b (eqb zone z) amount)))
+      ∙ plus_where b xs (λ z. cond (eqb zone z) amount 0) 1 16 long
       ∙ ap (λ ys. cond b ys xs) (sym (plus_one xs zone amount 1 16 (zone - 1) long (omega arith) (omega arith)))
 
   -- a tally with what a package without priority counts in its zones
@@ -142,8 +142,8 @@ module _ (t : Tally) (p : PricedPackage) where
     supply = u.supply;
     before = u.before;
     after = u.after;
-    nameplate = set u.nameplate (p.«record».interconnection_zone - 1) (get_or u.nameplate (p.«record».interconnection_zone - 1) 0 + p.«record».nameplate);
-    export = set u.export (p.«record».export_zone - 1) (get_or u.export (p.«record».export_zone - 1) 0 + p.«record».energy);
+    nameplate = set u.nameplate (p.terms.interconnection_zone - 1) (get_or u.nameplate (p.terms.interconnection_zone - 1) 0 + p.terms.nameplate);
+    export = set u.export (p.terms.export_zone - 1) (get_or u.export (p.terms.export_zone - 1) 0 + p.terms.energy);
     cost = u.cost;
   }
 
@@ -161,21 +161,21 @@ module _ (t : Tally) (p : PricedPackage) where
 
   module _ (long : Sized t) (r : PricedRanges p) where
     -- with the zones that is the package added
-    added_is : zoned_if (eqb p.«record».unqualified 1) dated_too ≡ added t p
+    added_is : zoned_if (eqb p.terms.unqualified 1) dated_too ≡ added t p
     added_is =
-        sym (tally_same (added t p) (zoned_if (eqb p.«record».unqualified 1) dated_too)
+        sym (tally_same (added t p) (zoned_if (eqb p.terms.unqualified 1) dated_too)
         refl
-        (plus_where true t.supply (λ m. supplied m p.«record») 1 5 long.supply)
-        (plus_where (eqb p.«record».date 1) t.before (λ m. supplied m p.«record») 1 5 long.before)
-        (plus_where (eqb p.«record».date 2) t.after (λ m. supplied m p.«record») 1 5 long.after)
-        (zone-added t.nameplate p.«record».interconnection_zone p.«record».nameplate long.nameplate r.of_record.interconnection_zone_least r.of_record.interconnection_zone)
-        (zone-added t.export p.«record».export_zone p.«record».energy long.export r.of_record.export_zone_least r.of_record.export_zone)
+        (plus_where true t.supply (λ m. supplied m p.terms) 1 5 long.supply)
+        (plus_where (eqb p.terms.date 1) t.before (λ m. supplied m p.terms) 1 5 long.before)
+        (plus_where (eqb p.terms.date 2) t.after (λ m. supplied m p.terms) 1 5 long.after)
+        (zone-added t.nameplate p.terms.interconnection_zone p.terms.nameplate long.nameplate r.of_record.interconnection_zone_least r.of_record.interconnection_zone)
+        (zone-added t.export p.terms.export_zone p.terms.energy long.export r.of_record.export_zone_least r.of_record.export_zone)
         refl)
 
     -- of a package without priority
-    pub added-zoned : p.«record».unqualified ≡ 1 → zoned dated_too ≡ added t p
-    added-zoned is = ap (λ b. zoned_if b dated_too) (sym (eq-eqb p.«record».unqualified 1 is)) ∙ added_is
+    pub added-zoned : p.terms.unqualified ≡ 1 → zoned dated_too ≡ added t p
+    added-zoned is = ap (λ b. zoned_if b dated_too) (sym (eq-eqb p.terms.unqualified 1 is)) ∙ added_is
 
     -- of a package with priority
-    pub added-plain : (p.«record».unqualified ≡ 1 → ⊥) → dated_too ≡ added t p
-    added-plain not = ap (λ b. zoned_if b dated_too) (sym (ne_eqb p.«record».unqualified 1 not)) ∙ added_is
+    pub added-plain : (p.terms.unqualified ≡ 1 → ⊥) → dated_too ≡ added t p
+    added-plain not = ap (λ b. zoned_if b dated_too) (sym (ne_eqb p.terms.unqualified 1 not)) ∙ added_is

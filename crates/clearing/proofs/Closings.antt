@@ -2,13 +2,14 @@
 use Rattle.std.proofs.Common.{◌≡◌, List, Ok}
 use Rattle.offers.specs.Memory.{Entries}
 use Rattle.clearing.specs.declared.dockets.PricedPackage.{PricedPackage}
-use Rattle.clearing.specs.Closing.{Meaning, open_from, open_records, open_bands, priced, docket_with, closing}
+use Rattle.clearing.specs.Closing.{open_from, open_records, open_bands, priced, docket_with, closing}
+use Rattle.pricing.specs.Prices.{Meaning}
 use Rattle.clearing.specs.Lawful.{View}
 
 -- it makes the docket of what is open
 pub closing-priced : (before : View) (all : Entries) (meaning : Meaning) (ps : List PricedPackage)
     → priced meaning (open_from 1 all.packages) ≡ Ok ps
-    → closing before all meaning ≡ record { answer = Ok tt; left = docket_with all ps }
+    → closing before all meaning ≡ record { answer = Ok tt; after = docket_with all ps }
 closing-priced before all meaning ps is = rw is
 
 -- which has these lists

@@ -38,7 +38,7 @@ module _ {X Y : Type 0} (f : X → Y) where
 module _ {R : Type 0} where
   -- an offer stands open among entries whose first one has number n
   abbrev StandsFrom : ℕ → List (Entry R) → Numbered R → Type 0
-  StandsFrom n es o = (i : ℕ) × (n + i ≡ o.number) × (get_or es i Vacant ≡ Open o.of)
+  StandsFrom n es o = (i : ℕ) × (n + i ≡ o.number) × (get_or es i Vacant ≡ Open o.terms)
 
   -- or with one entry more in front
   stands_later : (n : ℕ) (e : Entry R) (es : List (Entry R)) (o : Numbered R) → StandsFrom (n + 1) es o → StandsFrom n (e ∷ es) o
@@ -50,31 +50,31 @@ module _ {R : Type 0} where
   stands n (Vacant ∷ es) o there = stands_later n Vacant es o (stands (n + 1) es o there)
   stands n (Open r ∷ es) o there =
       ⊎_elim
-      (λ is. (0, let same = ap (λ p. p.number) is in omega arith, ap (λ p. Open p.of) is))
+      (λ is. (0, let same = ap (λ p. p.number) is in omega arith, ap (λ p. Open p.terms) is))
       (λ later. stands_later n (Open r) es o (stands (n + 1) es o later))
-      (first_or_later o (record { number = n; of = r }) (open_from (n + 1) es) there)
+      (first_or_later o (record { number = n; terms = r }) (open_from (n + 1) es) there)
   stands n (Withdrawn r ∷ es) o there = stands_later n (Withdrawn r) es o (stands (n + 1) es o there)
 
   -- and what stands so is an open record
-  standing_in : (n : ℕ) (es : List (Entry R)) (o : Numbered R) (i : ℕ) → n + i ≡ o.number → get_or es i Vacant ≡ Open o.of → Contains (open_from n es) o
+  standing_in : (n : ℕ) (es : List (Entry R)) (o : Numbered R) (i : ℕ) → n + i ≡ o.number → get_or es i Vacant ≡ Open o.terms → Contains (open_from n es) o
   standing_in n [] o i at is = absurd (cc)
   standing_in n (Vacant ∷ es) o zero at is = absurd (cc)
   standing_in n (Vacant ∷ es) o (suc i) at is = standing_in (n + 1) es o i (omega arith) is
   standing_in n (Open r ∷ es) o zero at is =
       let number : n ≡ o.number = omega arith in
-      let of : r ≡ o.of = cc in
-      first_in o (record { number = n; of = r }) (open_from (n + 1) es) (λ j. record { number = number j; of = of j })
+      let of : r ≡ o.terms = cc in
+      first_in o (record { number = n; terms = r }) (open_from (n + 1) es) (λ j. record { number = number j; terms = of j })
   standing_in n (Open r ∷ es) o (suc i) at is =
-      later_in o (record { number = n; of = r }) (open_from (n + 1) es) (standing_in (n + 1) es o i (omega arith) is)
+      later_in o (record { number = n; terms = r }) (open_from (n + 1) es) (standing_in (n + 1) es o i (omega arith) is)
   standing_in n (Withdrawn r ∷ es) o zero at is = absurd (cc)
   standing_in n (Withdrawn r ∷ es) o (suc i) at is = standing_in (n + 1) es o i (omega arith) is
 
   -- an offer is among the open records of a register exactly if its number is open with its record
-  pub among_open : (es : List (Entry R)) (o : Numbered R) → Contains (open_from 1 es) o ↔ OpenWith es o.number o.of
+  pub among_open : (es : List (Entry R)) (o : Numbered R) → Contains (open_from 1 es) o ↔ OpenWith es o.number o.terms
   among_open es o = (
     λ there.
         let (i, at, is) = stands 1 es o there in
-        (omega arith, subst (λ (k : ℕ). get_or es k Vacant ≡ Open o.of) (omega arith) is),
+        (omega arith, subst (λ (k : ℕ). get_or es k Vacant ≡ Open o.terms) (omega arith) is),
     λ open_there. standing_in 1 es o (o.number - 1) (omega arith) open_there.1,
   )
 
@@ -82,13 +82,13 @@ module _ {R : Type 0} where
   pub record_among_open : (es : List (Entry R)) (r : R) → Contains (open_records es) r ↔ ((n : ℕ) × OpenWith es n r)
   record_among_open es r = (
     λ there.
-        let made = made_from (λ o. o.of) r (open_from 1 es) there in
+        let made = made_from (λ o. o.terms) r (open_from 1 es) there in
         (made.0.number, subst (OpenWith es made.0.number) made.2 ((among_open es made.0).0 made.1)),
     λ some.
-        let o : Numbered R = record { number = some.0; of = r } in
-        mapped (λ o. o.of) o (open_from 1 es) ((among_open es o).1 some.1),
+        let o : Numbered R = record { number = some.0; terms = r } in
+        mapped (λ o. o.terms) o (open_from 1 es) ((among_open es o).1 some.1),
   )
 
 -- a band is among the open bands, as they were offered, exactly if its number is open with its record
-pub band_among_open : (es : List (Entry Band)) (b : Numbered Band) → Contains (map offered (open_bands es)) b ↔ OpenWith es b.number b.of
+pub band_among_open : (es : List (Entry Band)) (b : Numbered Band) → Contains (map offered (open_bands es)) b ↔ OpenWith es b.number b.terms
 band_among_open es b = rw (offered_bands es) (among_open es b)

@@ -1,17 +1,17 @@
 -- How a list fills with the open records of a register: what stands in it after so many entries.
+use Rattle.std.specs.List.{list_all}
 use Rattle.std.proofs.Common.{◌≡◌, ℕ, ◌+◌, ◌<◌, ◌≤◌, Bool, true, List, [], ◌∷◌, ◌++◌, map, length, get_or, vec_items, vec_len, Vec, sym, ap, ◌∙◌, subst, arith}
 use Rattle.std.proofs.lemmas.List.{map_push, length_push}
 use Rattle.offers.specs.declared.registers.Entry.{Entry}
 use Rattle.offers.specs.declared.registers.Entry.TheVariants.{Vacant, Open}
 use Rattle.clearing.specs.Bands.{Numbered}
-use Rattle.clearing.specs.Ranges.{each}
 use Rattle.clearing.proofs.Fits.{each_push}
 use Rattle.clearing.proofs.Openings.{opened, one_opened, none_opened}
 
 -- At most so many stand in it, each passes a test, and they are what is made of the open records.
 pub record Copied {R X Z : Type 0} (test : X → Bool) (f : Numbered R → X) (es : List (Entry R)) (i : ℕ) (v : Vec X Z) : Type 0 where
   pub few : vec_len v ≤ i
-  pub fit : each test (vec_items v) ≡ true
+  pub fit : list_all test (vec_items v) ≡ true
   pub holds : vec_items v ≡ map f (opened es i)
 
 module _ {R X Z : Type 0} (test : X → Bool) (f : Numbered R → X) (es : List (Entry R)) (v : Vec X Z)
@@ -23,7 +23,7 @@ module _ {R X Z : Type 0} (test : X → Bool) (f : Numbered R → X) (es : List 
       (record { few = omega arith; fit = ok.fit; holds = ok.holds ∙ ap (map f) (sym (none_opened es i inside shut)) })
 
   -- an open entry puts one in that passes
-  pub one_more : (r : R) (x : X) → get_or es i Vacant ≡ Open r → x ≡ f (record { number = i + 1; of = r }) → test x ≡ true
+  pub one_more : (r : R) (x : X) → get_or es i Vacant ≡ Open r → x ≡ f (record { number = i + 1; terms = r }) → test x ≡ true
       → vec_items w ≡ vec_items v ++ x ∷ [] → Copied test f es (i + 1) w
   one_more r x is made pass items = record {
     few = omega (arith, v.ok.0, w.ok.0, ap length items, length_push (vec_items v) x, ok.few);
@@ -32,5 +32,5 @@ module _ {R X Z : Type 0} (test : X → Bool) (f : Numbered R → X) (es : List 
         items
         ∙ ap (λ xs. xs ++ x ∷ []) ok.holds
         ∙ ap (λ y. map f (opened es i) ++ y ∷ []) made
-        ∙ sym (ap (map f) (one_opened es i inside r is) ∙ map_push f (opened es i) (record { number = i + 1; of = r }));
+        ∙ sym (ap (map f) (one_opened es i inside r is) ∙ map_push f (opened es i) (record { number = i + 1; terms = r }));
   }

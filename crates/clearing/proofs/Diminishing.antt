@@ -1,9 +1,8 @@
 -- What a supply adds to a greater one brings no more than what it adds to a smaller one, since later units go to bands of lower prices.
-use Rattle.std.proofs.Common.{◌≡◌, ℕ, zero, suc, ◌+◌, ◌≤◌, min, true, List, arith}
+use Rattle.std.proofs.Common.{◌≡◌, ℕ, zero, suc, ◌+◌, ◌≤◌, min, true, List, arith, cond}
 use Rattle.std.specs.List.{AllByRecursion as Every}
 use Rattle.clearing.specs.declared.dockets.OpenBand.{OpenBand}
 use Rattle.clearing.specs.Bands.{rising, aheads, true_aheads}
-use Rattle.clearing.specs.Choices.{where_so}
 use Rattle.clearing.specs.Lawful.{market_income, income}
 use Rattle.clearing.proofs.Fits.{OpenRanges}
 use Rattle.clearing.proofs.FillingSums.{all_of, over, over_none, over-plus, wanted}
@@ -36,7 +35,7 @@ module _ (bs : List OpenBand) (rise : rising bs ≡ true) (ahead : aheads bs ≡
   Added = Fewer bs (filled_of xa bs) (filled_of y bs) (filled_of x bs) (filled_of ya bs)
 
   -- of what has at least a price in a market
-  front-added : (m p : ℕ) → Added (λ b s. where_so (at_least m p b) s)
+  front-added : (m p : ℕ) → Added (λ b s. cond (at_least m p b) s 0)
   front-added m p =
       let sold = λ (amount : ℕ → ℕ). filled-front bs amount rise ahead ranges m p in
       omega (arith, sold xa, sold y, sold x, sold ya, least_more (x m) (y m) (a m) (wanted (at_least m p) bs) (xa m) (ya m) (more m) (after m) (less m))
@@ -45,7 +44,7 @@ module _ (bs : List OpenBand) (rise : rising bs ≡ true) (ahead : aheads bs ≡
   cut_added : (m p : ℕ) → Added (pay_cut m p)
   cut_added m zero = fewer_none bs _ _ _ _ (pay_cut m 0) (all_of _ (pay_nothing m) bs)
   cut_added m (suc p) =
-      fewer_plus bs _ _ _ _ (pay_cut m p) (λ b s. where_so (at_least m (suc p) b) s) (pay_cut m (suc p)) (all_of _ (pay_more m p) bs)
+      fewer_plus bs _ _ _ _ (pay_cut m p) (λ b s. cond (at_least m (suc p) b) s 0) (pay_cut m (suc p)) (all_of _ (pay_more m p) bs)
       (cut_added m p) (front-added m (suc p))
 
   -- of a market's income

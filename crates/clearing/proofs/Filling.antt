@@ -1,14 +1,14 @@
 -- The filled sales are the sales to take: they are lawful where any are, and no sales bring more.
-use Rattle.std.proofs.Common.{◌≡◌, ℕ, zero, suc, ◌+◌, ◌-◌, ◌*◌, ◌<◌, ◌≤◌, min, true, eqb, List, [], ◌∷◌, map, refl, sym, ap, ◌∙◌, ap₂, ⊎_elim, mul-le-mul_left, arith}
-use Rattle.std.specs.List.{AllByRecursion as Every}
+use Rattle.std.proofs.Common.{◌≡◌, ℕ, zero, suc, ◌+◌, ◌-◌, ◌*◌, ◌<◌, ◌≤◌, min, true, eqb, List, [], ◌∷◌, map, refl, sym, ap, ◌∙◌, ap₂, ⊎_elim, mul-le-mul_left, arith, cond}
+use Rattle.std.specs.List.{AllByRecursion as Every, list_all}
 use Rattle.std.proofs.lemmas.Bool.{and_parts, eqb-true, cases_lt}
 use Rattle.std.proofs.lemmas.Bool.Decides.{nat_tests}
 use Rattle.clearing.specs.declared.dockets.OpenBand.{OpenBand}
 use Rattle.clearing.specs.Bands.{offered, comes_ahead, ahead_of, rising, aheads, true_aheads}
-use Rattle.clearing.specs.Choices.{taken, where_so, supply}
+use Rattle.clearing.specs.Choices.{taken, supply}
 use Rattle.clearing.specs.Filling.{PartsWithin, BestFilled}
 use Rattle.clearing.specs.Lawful.{View, WithinQuantities, sold, market_income, income, percentage, Lawful, filled_sales}
-use Rattle.clearing.specs.Ranges.{each, band_fits}
+use Rattle.clearing.specs.Ranges.{band_fits}
 use Rattle.clearing.specs.Sales.{filled}
 use Rattle.clearing.specs.Tallies.{row}
 use Rattle.clearing.proofs.Fits.{OpenRanges, open_ranges}
@@ -16,10 +16,10 @@ use Rattle.clearing.proofs.FillingSums.{where_same, times_least, all_of, all_bot
 use Rattle.clearing.proofs.FillingOrder.{InOrder, at_least, at_least-front, share, front-filled}
 
 -- the fields of bands in range
-pub ranged : (bs : List OpenBand) → each band_fits bs ≡ true → Every OpenRanges bs
+pub ranged : (bs : List OpenBand) → list_all band_fits bs ≡ true → Every OpenRanges bs
 ranged [] ok = tt
 ranged (b ∷ bs) ok =
-    let parts = and_parts (band_fits b) (each band_fits bs) ok in
+    let parts = and_parts (band_fits b) (list_all band_fits bs) ok in
     (open_ranges b parts.0, ranged bs parts.1)
 
 -- what is sold in a market is what its bands of any price are sold
@@ -27,7 +27,7 @@ sold_all : (m : ℕ) (bs : List OpenBand) (ss : List ℕ) → sold bs ss m ≡ s
 sold_all m [] ss = omega arith
 sold_all m (b ∷ bs) [] = omega arith
 sold_all m (b ∷ bs) (s ∷ ss) =
-    let here : where_so (eqb b.«record».market m) s ≡ where_so (at_least m 0 b) s = grind (arith, nat_tests) in
+    let here : cond (eqb b.terms.market m) s 0 ≡ cond (at_least m 0 b) s 0 = grind (arith, nat_tests) in
     omega (arith, here, sold_all m bs ss)
 
 -- and no less than what those of at least a price are sold
@@ -35,20 +35,20 @@ sold_part : (m p : ℕ) (bs : List OpenBand) (ss : List ℕ) → sold_where (at_
 sold_part m p [] ss = omega arith
 sold_part m p (b ∷ bs) [] = omega arith
 sold_part m p (b ∷ bs) (s ∷ ss) =
-    let here : where_so (at_least m p b) s ≤ where_so (eqb b.«record».market m) s = grind (arith, nat_tests) in
+    let here : cond (at_least m p b) s 0 ≤ cond (eqb b.terms.market m) s 0 = grind (arith, nat_tests) in
     omega (arith, here, sold_part m p bs ss)
 
 -- what a band pays for a sale if it is of market m, at its price or at p if that is less
 abbrev pub pay_cut : ℕ → ℕ → OpenBand → ℕ → ℕ
-pay_cut m p b s = where_so (eqb b.«record».market m) (s * min p b.«record».price)
+pay_cut m p b s = cond (eqb b.terms.market m) (s * min p b.terms.price) 0
 
 -- no price is above the greatest, so with that cut the bands of a market pay its income
 pub pay_whole : (m : ℕ) (bs : List OpenBand) (ss : List ℕ) → Every OpenRanges bs → market_income bs ss m ≡ over (pay_cut m 10000000) bs ss
 pay_whole m [] ss ranges = refl
 pay_whole m (b ∷ bs) [] ranges = refl
 pay_whole m (b ∷ bs) (s ∷ ss) ranges =
-    let whole : min 10000000 b.«record».price ≡ b.«record».price = omega (arith, ranges.0.of_record.price) in
-    ap₂ (λ p n. where_so (eqb b.«record».market m) (s * p) + n) (sym whole) (pay_whole m bs ss ranges.1)
+    let whole : min 10000000 b.terms.price ≡ b.terms.price = omega (arith, ranges.0.of_record.price) in
+    ap₂ (λ p n. cond (eqb b.terms.market m) (s * p) 0 + n) (sym whole) (pay_whole m bs ss ranges.1)
 
 -- each filled sale is within the quantity
 pub filled_small : (amounts : List ℕ) (bs : List OpenBand) → WithinQuantities bs (map (filled amounts) bs)
@@ -63,24 +63,24 @@ parts_of_one (b ∷ bs) [] within = absurd within
 parts_of_one (b ∷ bs) (s ∷ ss) within = (omega (arith, within.0), parts_of_one bs ss within.1)
 
 -- with a price cut one higher, a band of at least that price pays one more for each unit
-pub pay_more : (m p : ℕ) (b : OpenBand) (s : ℕ) → pay_cut m (suc p) b s ≡ pay_cut m p b s + where_so (at_least m (suc p) b) s
+pub pay_more : (m p : ℕ) (b : OpenBand) (s : ℕ) → pay_cut m (suc p) b s ≡ pay_cut m p b s + cond (at_least m (suc p) b) s 0
 pay_more m p b s =
     ⊎_elim
-    (λ (h : p < b.«record».price).
-    let upper : min (suc p) b.«record».price ≡ suc p = omega arith in
-    let lower : min p b.«record».price ≡ p = omega arith in
+    (λ (h : p < b.terms.price).
+    let upper : min (suc p) b.terms.price ≡ suc p = omega arith in
+    let lower : min p b.terms.price ≡ p = omega arith in
     let more : s * suc p ≡ s * p + s = omega arith in
     rw (upper, lower, more) (grind (arith, nat_tests)))
-    (λ (h : b.«record».price ≤ p).
-    let upper : min (suc p) b.«record».price ≡ b.«record».price = omega arith in
-    let lower : min p b.«record».price ≡ b.«record».price = omega arith in
+    (λ (h : b.terms.price ≤ p).
+    let upper : min (suc p) b.terms.price ≡ b.terms.price = omega arith in
+    let lower : min p b.terms.price ≡ b.terms.price = omega arith in
     rw (upper, lower) (grind (arith, nat_tests)))
-    (cases_lt p b.«record».price)
+    (cases_lt p b.terms.price)
 
 -- with all prices cut to nothing it pays nothing
 pub pay_nothing : (m : ℕ) (b : OpenBand) (s : ℕ) → pay_cut m 0 b s ≡ 0
 pay_nothing m b s =
-    let nothing : min 0 b.«record».price ≡ 0 = omega arith in
+    let nothing : min 0 b.terms.price ≡ 0 = omega arith in
     rw nothing (grind (arith, nat_tests))
 
 -- sales in d-th parts come to no more of an amount than others in whole units
@@ -102,18 +102,18 @@ filled_of amount bs = map (filled (row amount 1 5)) bs
 
 module _ (bs : List OpenBand) (amount : ℕ → ℕ) (rise : rising bs ≡ true) (ahead : aheads bs ≡ true_aheads bs) (ranges : Every OpenRanges bs) where
   -- a band is sold its share of the amount for its market
-  filled-share : (m : ℕ) (b : OpenBand) → OpenRanges b → b.ahead ≡ ahead_of (map offered bs) (offered b) → b.«record».market ≡ m → filled (row amount 1 5) b ≡ share (amount m) bs b
+  filled-share : (m : ℕ) (b : OpenBand) → OpenRanges b → b.ahead ≡ ahead_of (map offered bs) (offered b) → b.terms.market ≡ m → filled (row amount 1 5) b ≡ share (amount m) bs b
   filled-share m b r is market =
-      let first : 1 + (b.«record».market - 1) ≡ m = omega (arith, r.of_record.market_least) in
-      let place = row_getD amount 1 5 (b.«record».market - 1) 0 (omega (arith, r.of_record.market)) in
-      let before = total-map (λ a. where_so (comes_ahead a (offered b)) a.of.quantity) offered bs in
-      ap₂ (λ n k. min (n - k) b.«record».quantity) (place ∙ ap amount first) (is ∙ before)
+      let first : 1 + (b.terms.market - 1) ≡ m = omega (arith, r.of_record.market_least) in
+      let place = row_getD amount 1 5 (b.terms.market - 1) 0 (omega (arith, r.of_record.market)) in
+      let before = total-map (λ a. cond (comes_ahead a (offered b)) a.terms.quantity 0) offered bs in
+      ap₂ (λ n k. min (n - k) b.terms.quantity) (place ∙ ap amount first) (is ∙ before)
 
   -- the bands of a market with at least a price are sold all that they want, or the whole amount
   pub filled-front : (m p : ℕ) → sold_where (at_least m p) bs (filled_of amount bs) ≡ min (amount m) (wanted (at_least m p) bs)
   filled-front m p =
-      let same = all_both _ _ _ (λ b r is. where_same (at_least m p b) _ _ (λ t. filled-share m b r is (eqb-true b.«record».market m (and_parts _ _ t).0))) bs ranges (all_maps _ _ bs ahead) in
-      over-map (λ b s. where_so (at_least m p b) s) (filled (row amount 1 5)) bs
+      let same = all_both _ _ _ (λ b r is. where_same (at_least m p b) _ _ (λ t. filled-share m b r is (eqb-true b.terms.market m (and_parts _ _ t).0))) bs ranges (all_maps _ _ bs ahead) in
+      over-map (λ b s. cond (at_least m p b) s 0) (filled (row amount 1 5)) bs
       ∙ total-same _ _ bs same
       ∙ front-filled (at_least m p) (at_least-front m p) (amount m) 0 bs rise
 
@@ -123,7 +123,7 @@ module _ (bs : List OpenBand) (amount : ℕ → ℕ) (rise : rising bs ≡ true)
 
   module _ (d : ℕ) (ss : List ℕ) (parts : PartsWithin d bs ss) (few : (m : ℕ) → sold bs ss m ≤ d * amount m) where
     -- no other sales sell more of what has at least a price
-    front-most : (m p : ℕ) → NoMore d bs ss (filled_of amount bs) (λ b s. where_so (at_least m p b) s)
+    front-most : (m p : ℕ) → NoMore d bs ss (filled_of amount bs) (λ b s. cond (at_least m p b) s 0)
     front-most m p =
         rw (filled-front m p)
         (times_least d _ (amount m) (wanted (at_least m p) bs) (omega (arith, sold_part m p bs ss, few m)) (within-wanted d (at_least m p) bs ss parts))
@@ -136,7 +136,7 @@ module _ (bs : List OpenBand) (amount : ℕ → ℕ) (rise : rising bs ≡ true)
     cut_most : (m p : ℕ) → NoMore d bs ss (filled_of amount bs) (pay_cut m p)
     cut_most m zero = none_more d bs ss (filled_of amount bs) (pay_cut m 0) (all_of _ (pay_nothing m) bs)
     cut_most m (suc p) =
-        plus_more d bs ss (filled_of amount bs) (pay_cut m p) (λ b s. where_so (at_least m (suc p) b) s) (pay_cut m (suc p))
+        plus_more d bs ss (filled_of amount bs) (pay_cut m p) (λ b s. cond (at_least m (suc p) b) s 0) (pay_cut m (suc p))
         (all_of _ (pay_more m p) bs) (cut_most m p) (front-most m (suc p))
 
     -- nor at whole prices
@@ -152,19 +152,19 @@ abbrev supplies : View → ℕ → ℕ → ℕ
 supplies v choice m = supply m (taken v.packages choice)
 
 -- the filled sales of a choice are within its supply
-pub filled_within : (v : View) (choice m : ℕ) → InOrder v → each band_fits v.bands ≡ true → sold v.bands (filled_sales v choice) m ≤ supply m (taken v.packages choice)
+pub filled_within : (v : View) (choice m : ℕ) → InOrder v → list_all band_fits v.bands ≡ true → sold v.bands (filled_sales v choice) m ≤ supply m (taken v.packages choice)
 filled_within v choice m order fit =
     omega (arith, filled-market v.bands (supplies v choice) order.numbers order.ahead (ranged v.bands fit) m)
 
 -- no lawful sales sell more in a market
-sold-most : (v : View) (choice : ℕ) → InOrder v → each band_fits v.bands ≡ true → (ss : List ℕ) → Lawful v choice ss
+sold-most : (v : View) (choice : ℕ) → InOrder v → list_all band_fits v.bands ≡ true → (ss : List ℕ) → Lawful v choice ss
     → (m : ℕ) → sold v.bands ss m ≤ sold v.bands (filled_sales v choice) m
 sold-most v choice order fit ss l m =
     let parts = parts_of_one v.bands ss l.within_quantities in
     omega (arith, market-most v.bands (supplies v choice) order.numbers order.ahead (ranged v.bands fit) 1 ss parts (λ m. omega (arith, l.within_supply m)) m)
 
 -- the filled sales are lawful where any are, since they keep the percentages that smaller sales keep; and no sales bring more
-pub best-filled : (v : View) (choice : ℕ) → InOrder v → each band_fits v.bands ≡ true → BestFilled v choice
+pub best-filled : (v : View) (choice : ℕ) → InOrder v → list_all band_fits v.bands ≡ true → BestFilled v choice
 best-filled v choice order fit = record {
   lawful = λ ss l.
       let more = λ (m percent : ℕ). mul-le-mul_left percent (sold-most v choice order fit ss l m) in

@@ -1,12 +1,12 @@
 -- The order in which bands are served, and that a supply which fills them in this order fills each front of it.
-use Rattle.std.proofs.Common.{◌≡◌, ℕ, ◌+◌, ◌-◌, ◌<◌, ◌≤◌, min, Bool, true, false, ◌&&◌, eqb, ltb, leb, List, [], ◌∷◌, map, ⊎_elim, arith}
+use Rattle.std.proofs.Common.{◌≡◌, ℕ, ◌+◌, ◌-◌, ◌<◌, ◌≤◌, min, Bool, true, false, ◌&&◌, eqb, ltb, leb, List, [], ◌∷◌, map, ⊎_elim, arith, cond}
 use Rattle.std.specs.List.{AllByRecursion as Every}
 use Rattle.std.proofs.ByRecursion.{All-weaker}
 use Rattle.std.proofs.lemmas.Bool.{and_parts, ltb-true, cases_Bool}
 use Rattle.std.proofs.lemmas.Bool.Decides.{nat_tests}
 use Rattle.clearing.specs.declared.dockets.OpenBand.{OpenBand}
 use Rattle.clearing.specs.Bands.{offered, comes_ahead, rises_from, rising, aheads, true_aheads}
-use Rattle.clearing.specs.Choices.{total, where_so}
+use Rattle.clearing.specs.Choices.{total}
 use Rattle.clearing.specs.Lawful.{View}
 use Rattle.clearing.proofs.FillingSums.{all_of, total-same, total-pairs, total-less, wanted}
 
@@ -22,11 +22,11 @@ comes a b = comes_ahead (offered a) (offered b)
 -- A test tells a front of one market's bands: with each band it holds of those that are served before it.
 pub record Front (front : OpenBand → Bool) : Type 0 where
   pub closed : (a b : OpenBand) → comes a b ≡ true → front b ≡ true → front a ≡ true
-  pub one_market : (a b : OpenBand) → front a ≡ true → front b ≡ true → a.«record».market ≡ b.«record».market
+  pub one_market : (a b : OpenBand) → front a ≡ true → front b ≡ true → a.terms.market ≡ b.terms.market
 
 -- a band is of a market and has at least a price
 abbrev pub at_least : ℕ → ℕ → OpenBand → Bool
-at_least m p b = eqb b.«record».market m && leb p b.«record».price
+at_least m p b = eqb b.terms.market m && leb p b.terms.price
 
 -- such bands are a front, since a band of a higher price is served first
 pub at_least-front : (m p : ℕ) → Front (at_least m p)
@@ -51,7 +51,7 @@ served_once : (a b : OpenBand) → comes b a ≡ true → comes a b ≡ false
 served_once a b ahead = grind (arith, nat_tests)
 
 -- of two bands of a market one is served before the other, since their numbers differ
-served_first : (a b : OpenBand) → a.number < b.number → a.«record».market ≡ b.«record».market → comes b a ≡ false → comes a b ≡ true
+served_first : (a b : OpenBand) → a.number < b.number → a.terms.market ≡ b.terms.market → comes b a ≡ false → comes a b ≡ true
 served_first a b h same behind = grind (arith, nat_tests)
 
 -- rising numbers are all greater than the one before them
@@ -64,25 +64,25 @@ rises-above low least (b ∷ bs) h e =
 
 -- what a band is sold of a supply: what the bands before it leave, up to its quantity
 abbrev pub share : ℕ → List OpenBand → OpenBand → ℕ
-share s bs b = min (s - wanted (λ a. comes a b) bs) b.«record».quantity
+share s bs b = min (s - wanted (λ a. comes a b) bs) b.terms.quantity
 
 -- what the bands of a front are sold, where all the bands may be more than those that are summed
 abbrev shares : (OpenBand → Bool) → ℕ → List OpenBand → List OpenBand → ℕ
-shares front s all bs = total (λ b. where_so (front b) (share s all b)) bs
+shares front s all bs = total (λ b. cond (front b) (share s all b) 0) bs
 
 -- what another band of quantity q changes for a band: nothing where this one stands ahead of it; else, in a front of both, it is sold as of a supply smaller by q
 moved : (front behind ahead : Bool) (s q a n : ℕ) → (ahead ≡ true → (front ≡ true) × (behind ≡ false)) → (front ≡ true → ahead ≡ false → behind ≡ true)
-    → where_so front (min (s - (where_so behind q + a)) n) + where_so ahead (min (s - q - a) n) ≡ where_so ahead (min (s - a) n) + where_so front (min (s - q - a) n)
+    → cond front (min (s - (cond behind q 0 + a)) n) 0 + cond ahead (min (s - q - a) n) 0 ≡ cond ahead (min (s - a) n) 0 + cond front (min (s - q - a) n) 0
 moved front behind ahead s q a n first last = grind arith
 
 -- it changes nothing for a band that does not stand behind it
-unmoved : (front behind : Bool) (s q a n : ℕ) → (front ≡ true → behind ≡ false) → where_so front (min (s - (where_so behind q + a)) n) ≡ where_so front (min (s - a) n)
+unmoved : (front behind : Bool) (s q a n : ℕ) → (front ≡ true → behind ≡ false) → cond front (min (s - (cond behind q 0 + a)) n) 0 ≡ cond front (min (s - a) n) 0
 unmoved front behind s q a n first = grind arith
 
 module _ (front : OpenBand → Bool) (ok : Front front) (x : OpenBand) (bs : List OpenBand) where
   -- a front with x in it: what stands ahead of x is sold as without x, the rest as of a supply smaller by what x takes
   shares_moved : (s : ℕ) → front x ≡ true → Every (λ b. x.number < b.number) bs
-      → shares front s (x ∷ bs) bs + shares (λ b. comes b x) (s - x.«record».quantity) bs bs ≡ shares (λ b. comes b x) s bs bs + shares front (s - x.«record».quantity) bs bs
+      → shares front s (x ∷ bs) bs + shares (λ b. comes b x) (s - x.terms.quantity) bs bs ≡ shares (λ b. comes b x) s bs bs + shares front (s - x.terms.quantity) bs bs
   shares_moved s fx later =
       total-pairs _ _ _ _ bs (All-weaker _ _ (λ b h. moved (front b) (comes x b) (comes b x) s _ _ _ (λ bx. (ok.closed b x bx fx, served_once x b bx)) (λ fb. served_first x b h (ok.one_market x b fx fb))) bs later)
 
@@ -103,7 +103,7 @@ front-filled front ok s low [] rise = omega arith
 front-filled front ok s low (x ∷ bs) rise =
     let later = (and_parts (ltb low x.number) _ rise).1 in
     let above = rises-above x.number x.number bs (omega arith) later in
-    let left = s - x.«record».quantity in
+    let left = s - x.terms.quantity in
     let rest = λ (f : OpenBand → Bool) (k : Front f) (n : ℕ). front-filled f k n x.number bs later in
     let first = rest (λ b. comes b x) (ahead-front x) in
     ⊎_elim

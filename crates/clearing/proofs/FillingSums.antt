@@ -1,9 +1,9 @@
 -- Sums over bands, alone and beside a list of sales.
-use Rattle.std.proofs.Common.{◌≡◌, ℕ, zero, suc, ◌+◌, ◌*◌, ◌<◌, ◌≤◌, min, Bool, true, false, List, [], ◌∷◌, map, get_or, refl, ⊎_elim, add-zero, arith}
+use Rattle.std.proofs.Common.{◌≡◌, ℕ, zero, suc, ◌+◌, ◌*◌, ◌<◌, ◌≤◌, min, Bool, true, false, List, [], ◌∷◌, map, get_or, refl, ⊎_elim, add-zero, arith, cond}
 use Rattle.std.specs.List.{AllByRecursion as Every}
 use Rattle.std.proofs.lemmas.Bool.{cases_lt}
 use Rattle.clearing.specs.declared.dockets.OpenBand.{OpenBand}
-use Rattle.clearing.specs.Choices.{total, where_so}
+use Rattle.clearing.specs.Choices.{total}
 use Rattle.clearing.specs.Filling.{PartsWithin}
 use Rattle.clearing.specs.Tallies.{row}
 
@@ -47,7 +47,7 @@ module _ {X : Type 0} where
   total-map f g (x ∷ xs) = omega (arith, total-map f g xs)
 
 -- amounts that are the same where a test holds
-pub where_same : (t : Bool) (m n : ℕ) → (t ≡ true → m ≡ n) → where_so t m ≡ where_so t n
+pub where_same : (t : Bool) (m n : ℕ) → (t ≡ true → m ≡ n) → cond t m 0 ≡ cond t n 0
 where_same true m n same = same refl
 where_same false m n same = refl
 
@@ -92,11 +92,11 @@ over-plus f g h (b ∷ bs) (s ∷ ss) parts = omega (arith, parts.0 s, over-plus
 
 -- what those of the bands that pass a test are sold
 abbrev pub sold_where : (OpenBand → Bool) → List OpenBand → List ℕ → ℕ
-sold_where test = over (λ b s. where_so (test b) s)
+sold_where test = over (λ b s. cond (test b) s 0)
 
 -- what they would take
 abbrev pub wanted : (OpenBand → Bool) → List OpenBand → ℕ
-wanted test = total (λ b. where_so (test b) b.«record».quantity)
+wanted test = total (λ b. cond (test b) b.terms.quantity 0)
 
 -- sales that are each within the quantity, in d-th parts, are together within what is wanted
 pub within-wanted : (d : ℕ) (test : OpenBand → Bool) (bs : List OpenBand) (ss : List ℕ) → PartsWithin d bs ss → sold_where test bs ss ≤ d * wanted test bs
@@ -104,6 +104,6 @@ within-wanted d test [] [] parts = omega arith
 within-wanted d test [] (s ∷ ss) parts = absurd parts
 within-wanted d test (b ∷ bs) [] parts = absurd parts
 within-wanted d test (b ∷ bs) (s ∷ ss) parts =
-    let here : where_so (test b) s ≤ d * where_so (test b) b.«record».quantity =
-    elim (test b) as (λ t. where_so t s ≤ d * where_so t b.«record».quantity) [ true ↦ parts.0 | false ↦ omega arith ] in
+    let here : cond (test b) s 0 ≤ d * cond (test b) b.terms.quantity 0 =
+    elim (test b) as (λ t. cond t s 0 ≤ d * cond t b.terms.quantity 0) [ true ↦ parts.0 | false ↦ omega arith ] in
     omega (arith, here, within-wanted d test bs ss parts.1)

@@ -1,7 +1,7 @@
 -- What a test of ranges tells: of each element of a list, and of each field of a record.
 use Rattle.std.proofs.Common.{◌≡◌, ℕ, zero, suc, ◌+◌, ◌<◌, ◌≤◌, Bool, true, false, cond, not, ◌&&◌, eqb, leb, List, [], ◌∷◌, ◌++◌, length, get_or, take, set, ℤ, ◌≤ℤ◌, Decides, refl, subst, ⊎_elim, arith, w64, SFits, to_z, of_z}
 use lib.Signed.{le_z}
-use Rattle.std.specs.List.{AllByRecursion as Every}
+use Rattle.std.specs.List.{AllByRecursion as Every, list_all}
 use Rattle.std.proofs.ByRecursion.{All-get_or, All-push, All-set, All-take, Decides-by_and}
 use Rattle.std.proofs.lemmas.List.{get_or_past}
 use Rattle.std.proofs.lemmas.Int.{ints, to_z-of_z}
@@ -15,45 +15,45 @@ use Rattle.offers.specs.declared.registers.Entry.{Entry}
 use Rattle.offers.specs.declared.registers.Entry.TheVariants.{Vacant, Open}
 use Rattle.offers.specs.Fields.{within, first_false, allowed_by}
 use Rattle.offers.specs.Layouts.{Layout, fault_of}
-use Rattle.offers.specs.Registers.{InRange, held_fault}
+use Rattle.offers.specs.Registers.{InRange, entry_fault}
 use Rattle.offers.specs.Tables.{package_layout, band_layout, pair_layout, exclusion_layout, limit_layout}
 use Rattle.pricing.specs.Prices.{least, greatest}
 use Rattle.clearing.specs.declared.dockets.PricedPackage.{PricedPackage}
 use Rattle.clearing.specs.declared.dockets.OpenBand.{OpenBand}
-use Rattle.clearing.specs.Ranges.{each, fits, price_fits, package_fits, band_fits}
+use Rattle.clearing.specs.Ranges.{fits, price_fits, package_fits, band_fits}
 
 module _ {X : Type 0} (f : X → Bool) where
   -- a test passed by every element, as a fact of every element
-  each_all : (xs : List X) → Decides (each f xs) (Every (λ x. f x ≡ true) xs)
-  each_all = Decides-by_and f (λ x. f x ≡ true) (each f) (λ x. ((λ e. e), (λ e. e))) refl (λ _ _. refl)
+  each_all : (xs : List X) → Decides (list_all f xs) (Every (λ x. f x ≡ true) xs)
+  each_all = Decides-by_and f (λ x. f x ≡ true) (list_all f) (λ x. ((λ e. e), (λ e. e))) refl (λ _ _. refl)
 
   -- the element at a place passes
-  pub each_getD : (xs : List X) (i : ℕ) (d : X) → i < length xs → each f xs ≡ true → f (get_or xs i d) ≡ true
+  pub each_getD : (xs : List X) (i : ℕ) (d : X) → i < length xs → list_all f xs ≡ true → f (get_or xs i d) ≡ true
   each_getD xs i d h e = All-get_or (λ x. f x ≡ true) xs i d h ((each_all xs).0 e)
 
   -- as what comes from that place
-  pub each_item : (xs : List X) (i : ℕ) (x : X) → i < length xs → x ≡ get_or xs i x → each f xs ≡ true → f x ≡ true
+  pub each_item : (xs : List X) (i : ℕ) (x : X) → i < length xs → x ≡ get_or xs i x → list_all f xs ≡ true → f x ≡ true
   each_item xs i x h is e = rw is (each_getD xs i x h e)
 
   -- so does what is read at any place, if the default passes
-  pub each_read : (xs : List X) (i : ℕ) (d : X) → f d ≡ true → each f xs ≡ true → f (get_or xs i d) ≡ true
+  pub each_read : (xs : List X) (i : ℕ) (d : X) → f d ≡ true → list_all f xs ≡ true → f (get_or xs i d) ≡ true
   each_read xs i d ok e =
       ⊎_elim (λ h. each_getD xs i d h e) (λ h. rw (get_or_past xs i d h) ok) (cases_lt i (length xs))
 
   -- one more that passes
-  pub each_push : (xs : List X) (x : X) → each f xs ≡ true → f x ≡ true → each f (xs ++ x ∷ []) ≡ true
+  pub each_push : (xs : List X) (x : X) → list_all f xs ≡ true → f x ≡ true → list_all f (xs ++ x ∷ []) ≡ true
   each_push xs x e ok = (each_all (xs ++ x ∷ [])).1 (All-push (λ x. f x ≡ true) xs x ((each_all xs).0 e) ok)
 
   -- one that passes in the place of another
-  pub each_set : (xs : List X) (i : ℕ) (x : X) → f x ≡ true → each f xs ≡ true → each f (set xs i x) ≡ true
+  pub each_set : (xs : List X) (i : ℕ) (x : X) → f x ≡ true → list_all f xs ≡ true → list_all f (set xs i x) ≡ true
   each_set xs i x ok e = (each_all (set xs i x)).1 (All-set (λ x. f x ≡ true) xs i x ok ((each_all xs).0 e))
 
   -- the first so many pass
-  pub each_take : (n : ℕ) (xs : List X) → each f xs ≡ true → each f (take n xs) ≡ true
+  pub each_take : (n : ℕ) (xs : List X) → list_all f xs ≡ true → list_all f (take n xs) ≡ true
   each_take n xs e = (each_all (take n xs)).1 (All-take (λ x. f x ≡ true) n xs ((each_all xs).0 e))
 
 -- a number read at any place of a row is at most what each of the row is
-pub each-most : (most : ℕ) (xs : List ℕ) (i : ℕ) → each (λ n. leb n most) xs ≡ true → get_or xs i 0 ≤ most
+pub each-most : (most : ℕ) (xs : List ℕ) (i : ℕ) → list_all (λ n. leb n most) xs ≡ true → get_or xs i 0 ≤ most
 each-most most xs i e = leb-true (get_or xs i 0) most (each_read (λ n. leb n most) xs i 0 (le-leb 0 most (omega arith)) e)
 
 -- a number in range is no less than the least
@@ -91,7 +91,7 @@ field-allowed k r e = none_fails 2 (allowed_by k.fields r) (omega arith) (eqb-tr
 -- an open record of a register in range is in range
 pub open_fits : {R : Type 0} (k : Layout R) (es : List (Entry R)) (i : ℕ) (r : R)
     → InRange k es → get_or es i Vacant ≡ Open r → fits k r ≡ true
-open_fits k es i r ok e = eq-eqb (fault_of k r) 0 (subst (λ x. held_fault k x ≡ 0) e (ok i))
+open_fits k es i r ok e = eq-eqb (fault_of k r) 0 (subst (λ x. entry_fault k x ≡ 0) e (ok i))
 
 -- The ranges of a package's fields.
 pub record PackageRanges (p : Package) : Type 0 where
@@ -204,7 +204,7 @@ limit_ranges l e =
 
 -- The ranges of a package with its number and its price.
 pub record PricedRanges (p : PricedPackage) : Type 0 where
-  pub of_record : PackageRanges p.«record»
+  pub of_record : PackageRanges p.terms
   pub number_least : 1 ≤ p.number
   pub number : p.number ≤ 40
   pub price_least : least ≤ℤ p.price
@@ -230,11 +230,11 @@ price-stored price e =
 -- a package that fits has all of these
 pub priced_ranges : (p : PricedPackage) → package_fits p ≡ true → PricedRanges p
 priced_ranges p e =
-    let parts = and_parts (fits package_layout p.«record») (within 1 40 p.number && price_fits p.price) e in
+    let parts = and_parts (fits package_layout p.terms) (within 1 40 p.number && price_fits p.price) e in
     let more = and_parts (within 1 40 p.number) (price_fits p.price) parts.1 in
     let between = price_between p.price more.1 in
     record {
-      of_record = package_ranges p.«record» parts.0;
+      of_record = package_ranges p.terms parts.0;
       number_least = within-least 1 40 _ more.0;
       number = within-most 1 40 _ more.0;
       price_least = between.0;
@@ -243,7 +243,7 @@ priced_ranges p e =
 
 -- The ranges of an open band with its number and what stands ahead of it.
 pub record OpenRanges (b : OpenBand) : Type 0 where
-  pub of_record : BandRanges b.«record»
+  pub of_record : BandRanges b.terms
   pub number_least : 1 ≤ b.number
   pub number : b.number ≤ 64
   pub ahead : b.ahead ≤ 6400000000
@@ -251,10 +251,10 @@ pub record OpenRanges (b : OpenBand) : Type 0 where
 -- a band that fits has all of these
 pub open_ranges : (b : OpenBand) → band_fits b ≡ true → OpenRanges b
 open_ranges b e =
-    let parts = and_parts (fits band_layout b.«record») (within 1 64 b.number && leb b.ahead 6400000000) e in
+    let parts = and_parts (fits band_layout b.terms) (within 1 64 b.number && leb b.ahead 6400000000) e in
     let more = and_parts (within 1 64 b.number) (leb b.ahead 6400000000) parts.1 in
     record {
-      of_record = band_ranges b.«record» parts.0;
+      of_record = band_ranges b.terms parts.0;
       number_least = within-least 1 64 _ more.0;
       number = within-most 1 64 _ more.0;
       ahead = leb-true b.ahead 6400000000 more.1;

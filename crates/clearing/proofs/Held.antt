@@ -14,7 +14,7 @@ abbrev pub no_package : PricedPackage
 no_package = record {
   number = 0;
   price = pos 0;
-  «record» = record {
+  terms = record {
     power = 0;
     energy = 0;
     certificates = 0;
@@ -31,7 +31,7 @@ no_package = record {
 }
 
 abbrev pub no_band : OpenBand
-no_band = record { number = 0; ahead = 0; «record» = record { market = 0; quantity = 0; price = 0 } }
+no_band = record { number = 0; ahead = 0; terms = record { market = 0; quantity = 0; price = 0 } }
 
 abbrev pub no_exclusion : Exclusion
 no_exclusion = record { group = 0; member = 0 }

@@ -1,6 +1,6 @@
 -- What the tests of a choice decide: the rules of a lawful choice, over its packages and over a tally's rows.
 use Rattle.std.proofs.Common.{◌≡◌, ℕ, ◌*◌, ◌≤◌, Bool, true, false, List, [], ◌∷◌, ℤ, Some, None, vec_items, Decides, Option, sym, refl, ap, ◌∙◌, ⊎_elim, arith}
-use Rattle.std.specs.List.{AllByRecursion as Every}
+use Rattle.std.specs.List.{AllByRecursion as Every, list_all}
 use Rattle.std.proofs.lemmas.Bool.{cases_Bool, both_ways}
 use Rattle.std.proofs.lemmas.Bool.Decides.{same_from_decides, Decides-like, Decides-eqb, Decides-and}
 use Rattle.std.proofs.ByRecursion.{Decides-by_and}
@@ -13,10 +13,10 @@ use Rattle.clearing.specs.declared.dockets.Docket.{Docket}
 use Rattle.clearing.specs.declared.tallies.Tally.{Tally}
 use Rattle.clearing.specs.declared.sales.Sales.{Sales}
 use Rattle.clearing.specs.Choices.{taken, supply, dated, nameplates, exports, has_number}
-use Rattle.clearing.specs.Judging.{pairs_met, groups_apart, zones_within, share_kept, dates_within, passes, worth_of}
+use Rattle.clearing.specs.Judging.{pairs_kept, exclusions_kept, zones_kept, share_kept, dates_kept, passes, worth_of}
 use Rattle.clearing.specs.Lawful.{View, view, sold, percentage, Lawful, Worth, filled_sales}
 use Rattle.clearing.specs.Kept.{PairsKept, ExclusionsKept, ZonesKept, DatesKept}
-use Rattle.clearing.specs.Ranges.{each, fits}
+use Rattle.clearing.specs.Ranges.{fits}
 use Rattle.clearing.specs.Sales.{sales_of}
 use Rattle.clearing.specs.Tallies.{row, tally_of}
 use Rattle.clearing.proofs.Filling.{best-filled, filled_small, filled_within}
@@ -26,17 +26,17 @@ use Rattle.clearing.proofs.Tested.{implies_decides, itself, decides_leb, of_thre
 use Rattle.clearing.proofs.RowRules.{all_both, pairs-same, exclusions-same, zones-same}
 
 -- a test of each element decides a rule of each
-pub each_decides : {X : Type 0} (p : X → Bool) (P : X → Type 0) → ((x : X) → Decides (p x) (P x)) → (xs : List X) → Decides (each p xs) (Every P xs)
-each_decides p P decides xs = Decides-by_and p P (each p) decides refl (λ _ _. refl) xs
+pub each_decides : {X : Type 0} (p : X → Bool) (P : X → Type 0) → ((x : X) → Decides (p x) (P x)) → (xs : List X) → Decides (list_all p xs) (Every P xs)
+each_decides p P decides xs = Decides-by_and p P (list_all p) decides refl (λ _ _. refl) xs
 
 -- the rule of pairs
 pub pairs_tell : (pairs : List Pair) (T W : List PricedPackage)
-    → Decides (pairs_met pairs T W) (Every (λ p. has_number p.dependent T ≡ true → has_number p.needed W ≡ true) pairs)
+    → Decides (pairs_kept pairs T W) (Every (λ p. has_number p.dependent T ≡ true → has_number p.needed W ≡ true) pairs)
 pairs_tell pairs T W = each_decides _ _ (λ p. implies_decides _ _ (itself _) (itself _)) pairs
 
 -- the rule of exclusions
 pub groups_tell : (xs : List Exclusion) (T : List PricedPackage)
-    → Decides (groups_apart xs T) (Every (λ e. Every (λ f. e.group ≡ f.group → has_number e.member T ≡ true → has_number f.member T ≡ true → e.member ≡ f.member) xs) xs)
+    → Decides (exclusions_kept xs T) (Every (λ e. Every (λ f. e.group ≡ f.group → has_number e.member T ≡ true → has_number f.member T ≡ true → e.member ≡ f.member) xs) xs)
 groups_tell xs T =
     each_decides _ _ (λ e. each_decides _ _ (λ f.
     let all = implies_decides _ _ (Decides-and _ _ (Decides-eqb e.group f.group) (Decides-and _ _ (itself (has_number e.member T)) (itself (has_number f.member T)))) (Decides-eqb e.member f.member) in
@@ -44,7 +44,7 @@ groups_tell xs T =
 
 -- the limits of zones
 pub zones_tell : (ls : List Limit) (T : List PricedPackage)
-    → Decides (zones_within ls T) (Every (λ l. (l.sort ≡ 1 → nameplates l.zone T ≤ l.amount) × (l.sort ≡ 2 → exports l.zone T ≤ l.amount)) ls)
+    → Decides (zones_kept ls T) (Every (λ l. (l.sort ≡ 1 → nameplates l.zone T ≤ l.amount) × (l.sort ≡ 2 → exports l.zone T ≤ l.amount)) ls)
 zones_tell ls T =
     each_decides _ _ (λ l. Decides-and _ _
     (implies_decides _ _ (Decides-eqb l.sort 1) (decides_leb (nameplates l.zone T) l.amount))
@@ -52,20 +52,20 @@ zones_tell ls T =
 
 module _ (T : List PricedPackage) (t : Tally) (counted : t ≡ tally_of T) (r : Bool) where
   -- what decides the rule of pairs over rows is the test over the packages that they count
-  pub pairs-tested : (W : List PricedPackage) (w : Tally) → w ≡ tally_of W → (ps : List Pair) → each (fits pair_layout) ps ≡ true
-      → Decides r (PairsKept ps t.takes w.takes) → r ≡ pairs_met ps T W
+  pub pairs-tested : (W : List PricedPackage) (w : Tally) → w ≡ tally_of W → (ps : List Pair) → list_all (fits pair_layout) ps ≡ true
+      → Decides r (PairsKept ps t.takes w.takes) → r ≡ pairs_kept ps T W
   pairs-tested W w others ps ok decides =
       let same = pairs-same T t counted W w others ps ok in
       same_from_decides r _ (Decides-like r same.0 same.1 decides) (pairs_tell ps T W)
 
   -- so for exclusions
-  pub groups_tested : (xs : List Exclusion) → each (fits exclusion_layout) xs ≡ true → Decides r (ExclusionsKept xs t.takes) → r ≡ groups_apart xs T
+  pub groups_tested : (xs : List Exclusion) → list_all (fits exclusion_layout) xs ≡ true → Decides r (ExclusionsKept xs t.takes) → r ≡ exclusions_kept xs T
   groups_tested xs ok decides =
       let same = exclusions-same T t counted xs ok in
       same_from_decides r _ (Decides-like r same.0 same.1 decides) (groups_tell xs T)
 
   -- so for the limits of zones
-  pub zones-tested : (ls : List Limit) → each (fits limit_layout) ls ≡ true → Decides r (ZonesKept ls t.nameplate t.export) → r ≡ zones_within ls T
+  pub zones-tested : (ls : List Limit) → list_all (fits limit_layout) ls ≡ true → Decides r (ZonesKept ls t.nameplate t.export) → r ≡ zones_kept ls T
   zones-tested ls ok decides =
       let same = zones-same T t counted ls ok in
       same_from_decides r _ (Decides-like r same.0 same.1 decides) (zones_tell ls T)
@@ -79,7 +79,7 @@ share_tells v T sales zone date m = decides_leb (100 * dated date m T) (percenta
 
 -- the percentages of dated supply
 pub dates_tell : (v : View) (T : List PricedPackage) (sales : List ℕ)
-    → Decides (dates_within v T sales) (Every (λ m. Shared v T sales 1 1 m × Shared v T sales 2 2 m) (1 ∷ 2 ∷ 3 ∷ []) × (Shared v T sales 3 1 5 × Shared v T sales 4 2 5))
+    → Decides (dates_kept v T sales) (Every (λ m. Shared v T sales 1 1 m × Shared v T sales 2 2 m) (1 ∷ 2 ∷ 3 ∷ []) × (Shared v T sales 3 1 5 × Shared v T sales 4 2 5))
 dates_tell v T sales =
     Decides-and _ _ (each_decides {X = ℕ} _ _ (λ m. Decides-and _ _ (share_tells v T sales 1 1 m) (share_tells v T sales 2 2 m)) (1 ∷ 2 ∷ 3 ∷ []))
     (Decides-and _ _ (share_tells v T sales 3 1 5) (share_tells v T sales 4 2 5))
@@ -87,7 +87,7 @@ dates_tell v T sales =
 -- tested over the sums of packages, and over what another choice sells, they are those of the packages
 pub dates-tested : (d : Docket) (T : List PricedPackage) (t : Tally) → t ≡ tally_of T → (choice : ℕ) (u : Tally) (s : Sales)
     → u ≡ tally_of (taken (vec_items d.packages.list) choice) → s ≡ sales_of (vec_items d.bands.list) u.supply
-    → (r : Bool) → Decides r (DatesKept (vec_items d.limits.list) t s.sold) → r ≡ dates_within (view d) T (filled_sales (view d) choice)
+    → (r : Bool) → Decides r (DatesKept (vec_items d.limits.list) t s.sold) → r ≡ dates_kept (view d) T (filled_sales (view d) choice)
 dates-tested d T t counted choice u s others filled-so r decides =
     let percent = percentage (vec_items d.limits.list) in
     let sales = filled_sales (view d) choice in

@@ -1,5 +1,5 @@
 -- The open records of a register: one entry after another, with rising numbers, and the bands ahead of each.
-use Rattle.std.proofs.Common.{◌≡◌, ℕ, ◌+◌, ◌<◌, true, ◌&&◌, ◌||◌, eqb, ltb, List, [], ◌∷◌, ◌++◌, map, length, get_or, take, sym, refl, ap, ◌∙◌, add-zero, add_comm, arith}
+use Rattle.std.proofs.Common.{◌≡◌, ℕ, ◌+◌, ◌<◌, true, ◌&&◌, ◌||◌, eqb, ltb, List, [], ◌∷◌, ◌++◌, map, length, get_or, take, sym, refl, ap, ◌∙◌, add-zero, add_comm, arith, cond}
 use Rattle.std.proofs.lemmas.List.{take_more, length-take-le, append-nil, map-id}
 use Rattle.std.proofs.lemmas.Bool.{and_from, lt-ltb}
 use Rattle.std.proofs.lemmas.Bool.Decides.{nat_tests}
@@ -8,7 +8,6 @@ use Rattle.offers.specs.declared.registers.Entry.{Entry}
 use Rattle.offers.specs.declared.registers.Entry.TheVariants.{Vacant, Open, Withdrawn}
 use Rattle.clearing.specs.declared.dockets.OpenBand.{OpenBand}
 use Rattle.clearing.specs.Bands.{Numbered, offered, comes_ahead, ahead_of, rises_from, rising, aheads, true_aheads}
-use Rattle.clearing.specs.Choices.{where_so}
 use Rattle.clearing.specs.Closing.{open_from, open_bands}
 use Rattle.clearing.proofs.Totals.{total-append}
 
@@ -25,7 +24,7 @@ open_append n (Vacant ∷ es) fs =
     open_append (n + 1) es fs ∙ ap (λ m. open_from (n + 1) es ++ open_from m fs) past
 open_append n (Open r ∷ es) fs =
     let past : n + 1 + length es ≡ n + length (Open r ∷ es) = omega arith in
-    ap (λ rs. record { number = n; of = r } ∷ rs)
+    ap (λ rs. record { number = n; terms = r } ∷ rs)
     (open_append (n + 1) es fs ∙ ap (λ m. open_from (n + 1) es ++ open_from m fs) past)
 open_append n (Withdrawn r ∷ es) fs =
     let past : n + 1 + length es ≡ n + length (Withdrawn r ∷ es) = omega arith in
@@ -50,11 +49,11 @@ module _ {R : Type 0} (es : List (Entry R)) (i : ℕ) (inside : i < length es) w
       ∙ ap (λ n. opened es i ++ open_from (1 + n) (get_or es i Vacant ∷ [])) (length-take-le i es (omega arith))
 
   -- which is open
-  pub one_opened : (r : R) → get_or es i Vacant ≡ Open r → opened es (i + 1) ≡ opened es i ++ record { number = i + 1; of = r } ∷ []
+  pub one_opened : (r : R) → get_or es i Vacant ≡ Open r → opened es (i + 1) ≡ opened es i ++ record { number = i + 1; terms = r } ∷ []
   one_opened r is =
       opened_more
       ∙ ap (λ e. opened es i ++ open_from (1 + i) (e ∷ [])) is
-      ∙ ap (λ n. opened es i ++ record { number = n; of = r } ∷ []) (add_comm 1 i)
+      ∙ ap (λ n. opened es i ++ record { number = n; terms = r } ∷ []) (add_comm 1 i)
 
   -- which is not open
   pub none_opened : ((r : R) → get_or es i Vacant ≡ Open r → ⊥) → opened es (i + 1) ≡ opened es i
@@ -69,13 +68,13 @@ pub numbers_rise : {R X : Type 0} (number : X → ℕ) (f : Numbered R → X) �
 numbers_rise number f same low n [] h = refl
 numbers_rise number f same low n (Vacant ∷ es) h = numbers_rise number f same low (n + 1) es (omega arith)
 numbers_rise number f same low n (Open r ∷ es) h =
-    rw (same (record { number = n; of = r }))
+    rw (same (record { number = n; terms = r }))
     (and_from _ _ (lt-ltb low n h) (numbers_rise number f same n (n + 1) es (omega arith)))
 numbers_rise number f same low n (Withdrawn r ∷ es) h = numbers_rise number f same low (n + 1) es (omega arith)
 
 -- an open band with what stands ahead of it among the open bands of a register
 abbrev pub with_ahead : List (Entry Band) → Numbered Band → OpenBand
-with_ahead es b = record { number = b.number; ahead = ahead_of (open_from 1 es) b; «record» = b.of }
+with_ahead es b = record { number = b.number; ahead = ahead_of (open_from 1 es) b; terms = b.terms }
 
 -- the numbers of a register's open bands rise
 pub bands_rise : (es : List (Entry Band)) → rising (open_bands es) ≡ true
@@ -99,11 +98,11 @@ ahead_so_far es i b = ahead_of (opened es i) b
 module _ (es : List (Entry Band)) (i : ℕ) (b : Numbered Band) (inside : i < length es) where
   -- an open band adds its quantity if it is served before the band
   pub ahead_open : (a : Band) → get_or es i Vacant ≡ Open a
-      → ahead_so_far es (i + 1) b ≡ ahead_so_far es i b + where_so (comes_ahead (record { number = i + 1; of = a }) b) a.quantity
+      → ahead_so_far es (i + 1) b ≡ ahead_so_far es i b + cond (comes_ahead (record { number = i + 1; terms = a }) b) a.quantity 0
   ahead_open a is =
-      let this : Numbered Band = record { number = i + 1; of = a } in
+      let this : Numbered Band = record { number = i + 1; terms = a } in
       ap (λ bs. ahead_of bs b) (one_opened es i inside a is)
-      ∙ omega (arith, total-append (λ a. where_so (comes_ahead a b) a.of.quantity) (opened es i) (this ∷ []))
+      ∙ omega (arith, total-append (λ a. cond (comes_ahead a b) a.terms.quantity 0) (opened es i) (this ∷ []))
 
   -- an entry that is not open adds nothing
   pub ahead_shut : ((a : Band) → get_or es i Vacant ≡ Open a → ⊥) → ahead_so_far es (i + 1) b ≡ ahead_so_far es i b
@@ -115,7 +114,7 @@ smaller-number i j = grind (arith, nat_tests)
 
 -- which of two bands comes ahead, by their places
 pub ahead_by_place : (a b : Band) (i j : ℕ)
-    → comes_ahead (record { number = i + 1; of = a }) (record { number = j + 1; of = b })
+    → comes_ahead (record { number = i + 1; terms = a }) (record { number = j + 1; terms = b })
     ≡ (eqb a.market b.market && (ltb b.price a.price || (eqb a.price b.price && ltb i j)))
 ahead_by_place a b i j =
     ap (λ t. eqb a.market b.market && (ltb b.price a.price || (eqb a.price b.price && t))) (smaller-number i j)

@@ -1,9 +1,9 @@
 -- The percentages that bind, as the limits are read one after another.
+use Rattle.std.specs.List.{list_all}
 use Rattle.std.proofs.Common.{◌≡◌, ℕ, ◌+◌, ◌-◌, ◌≤◌, min, Bool, true, false, cond, ◌&&◌, eqb, leb, List, [], ◌∷◌, ◌++◌, get_or, set, sym, refl, ap, ◌∙◌, arith}
 use Rattle.std.proofs.lemmas.Bool.{cond_both, cond-true, cond-false, and_from, and_left, and_right, eq-eqb, ne_eqb, le-leb}
 use Rattle.offers.specs.declared.records.Limit.{Limit}
 use Rattle.clearing.specs.Lawful.{percentage}
-use Rattle.clearing.specs.Ranges.{each}
 use Rattle.clearing.specs.Tallies.{row}
 use Rattle.clearing.proofs.Rows.{row_same, row-set, row-each, getD_row}
 
@@ -34,7 +34,7 @@ percentage-most (l ∷ ls) zone =
     cond_both (sets l zone) _ _ (λ n. n ≤ 100) (λ _. omega arith) (λ _. rest)
 
 -- so is each of a row of them
-pub percentages_most : (ls : List Limit) (n count : ℕ) → each (λ n. leb n 100) (row (percentage ls) n count) ≡ true
+pub percentages_most : (ls : List Limit) (n count : ℕ) → list_all (λ n. leb n 100) (row (percentage ls) n count) ≡ true
 percentages_most ls n count =
     row-each (λ n. leb n 100) (percentage ls) n count (λ zone. le-leb (percentage ls zone) 100 (percentage-most ls zone))
 

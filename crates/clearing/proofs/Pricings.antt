@@ -1,4 +1,5 @@
 -- The prices of a register's open packages, one entry after another.
+use Rattle.std.specs.List.{list_all}
 use Rattle.std.proofs.Common.{◌≡◌, ℕ, zero, suc, ◌+◌, ◌-◌, ◌<◌, true, ◌≢◌, List, [], ◌∷◌, map, length, get_or, set, ℤ, pos, Ok, Err, sym, refl, ap, ◌∙◌, add-zero, arith, length-set, get_or-set_other, get_or-set_same, below_more}
 use Rattle.offers.specs.declared.records.Package.{Package}
 use Rattle.offers.specs.declared.registers.Entry.{Entry}
@@ -6,13 +7,14 @@ use Rattle.offers.specs.declared.registers.Entry.TheVariants.{Vacant, Open, With
 use Rattle.pricing.specs.declared.rules.Fault.{Fault}
 use Rattle.clearing.specs.declared.dockets.PricedPackage.{PricedPackage}
 use Rattle.clearing.specs.Bands.{Numbered}
-use Rattle.clearing.specs.Closing.{Meaning, open_from, no_price, followed_by, priced_as, priced}
-use Rattle.clearing.specs.Ranges.{each, price_fits}
+use Rattle.clearing.specs.Closing.{open_from, no_price, followed_by, priced_as, priced}
+use Rattle.pricing.specs.Prices.{Meaning}
+use Rattle.clearing.specs.Ranges.{price_fits}
 use Rattle.clearing.proofs.Fits.{each_set}
 
 -- an open package with the price that stands at its place
 abbrev pub at_price : List ℤ → Numbered Package → PricedPackage
-at_price prices p = record { number = p.number; price = get_or prices (p.number - 1) (pos 0); «record» = p.of }
+at_price prices p = record { number = p.number; price = get_or prices (p.number - 1) (pos 0); terms = p.terms }
 
 -- the price at the place of each open package among the first so many entries is the one that a rule means
 abbrev pub PricedTo : Meaning → List (Entry Package) → ℕ → List ℤ → Type 0
@@ -26,14 +28,14 @@ module _ (meaning : Meaning) where
   -- each open package with its price, where each has one
   priced-from : (price : ℕ → ℤ) (n : ℕ) (es : List (Entry Package))
       → ((k : ℕ) (p : Package) → get_or es k Vacant ≡ Open p → meaning p ≡ Ok (price (n + k)))
-      → priced meaning (open_from n es) ≡ Ok (map (λ p. record { number = p.number; price = price p.number; «record» = p.of }) (open_from n es))
+      → priced meaning (open_from n es) ≡ Ok (map (λ p. record { number = p.number; price = price p.number; terms = p.terms }) (open_from n es))
   priced-from price n [] so = refl
   priced-from price n (Vacant ∷ es) so =
       priced-from price (n + 1) es (λ k p is. so (suc k) p is ∙ ap (λ m. Ok (price m)) (omega arith))
   priced-from price n (Open p ∷ es) so =
       let here : meaning p ≡ Ok (price n) = so 0 p refl ∙ ap (λ m. Ok (price m)) (add-zero n) in
-      ap (λ answer. priced_as (record { number = n; of = p }) answer (priced meaning (open_from (n + 1) es))) here
-      ∙ ap (followed_by (record { number = n; price = price n; «record» = p }))
+      ap (λ answer. priced_as (record { number = n; terms = p }) answer (priced meaning (open_from (n + 1) es))) here
+      ∙ ap (followed_by (record { number = n; price = price n; terms = p }))
       (priced-from price (n + 1) es (λ k p is. so (suc k) p is ∙ ap (λ m. Ok (price m)) (omega arith)))
   priced-from price n (Withdrawn p ∷ es) so =
       priced-from price (n + 1) es (λ k p is. so (suc k) p is ∙ ap (λ m. Ok (price m)) (omega arith))
@@ -54,12 +56,12 @@ module _ (meaning : Meaning) where
       refused_from (n + 1) es i p fault (λ k h. so (suc k) (omega arith)) is none ∙ ap (λ m. Err (no_price m fault)) (omega arith)
   refused_from n (Open q ∷ es) zero p fault so is none =
       let same : q ≡ p = cc in
-      ap (λ answer. priced_as (record { number = n; of = q }) answer (priced meaning (open_from (n + 1) es))) (ap meaning same ∙ none)
+      ap (λ answer. priced_as (record { number = n; terms = q }) answer (priced meaning (open_from (n + 1) es))) (ap meaning same ∙ none)
       ∙ ap (λ m. Err (no_price m fault)) (sym (add-zero n))
   refused_from n (Open q ∷ es) (suc i) p fault so is none =
       let here = so 0 (omega arith) q refl in
-      ap (λ answer. priced_as (record { number = n; of = q }) answer (priced meaning (open_from (n + 1) es))) here.1
-      ∙ ap (followed_by (record { number = n; price = here.0; «record» = q }))
+      ap (λ answer. priced_as (record { number = n; terms = q }) answer (priced meaning (open_from (n + 1) es))) here.1
+      ∙ ap (followed_by (record { number = n; price = here.0; terms = q }))
       (refused_from (n + 1) es i p fault (λ k h. so (suc k) (omega arith)) is none)
       ∙ ap (λ m. Err (no_price m fault)) (omega arith)
   refused_from n (Withdrawn q ∷ es) zero p fault so is none = absurd (grind arith)
@@ -76,7 +78,7 @@ module _ (meaning : Meaning) where
 -- The prices so far are in range and those that a rule means, and the rule still means what it meant.
 pub record Pricing (meaning now : Meaning) (es : List (Entry Package)) (i : ℕ) (prices : List ℤ) : Type 0 where
   pub long : length prices ≡ length es
-  pub fit : each price_fits prices ≡ true
+  pub fit : list_all price_fits prices ≡ true
   pub same : now ≡ meaning
   pub so : PricedTo meaning es i prices
 

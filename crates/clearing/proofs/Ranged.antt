@@ -1,22 +1,23 @@
 -- What every docket keeps, of whatever makes it: few offers, all in range, the bands in order.
+use Rattle.std.specs.List.{list_all}
 use Rattle.std.proofs.Common.{◌≡◌, ℕ, ◌≤◌, true, List, length, ◌≤ℤ◌, arith}
 use Rattle.std.proofs.lemmas.Int.{ints}
 use Rattle.offers.specs.Tables.{pair_layout, exclusion_layout, limit_layout}
 use Rattle.clearing.specs.declared.dockets.Docket.{Docket}
 use Rattle.clearing.specs.Lawful.{View, view, Lawful, surplus, filled_sales}
-use Rattle.clearing.specs.Ranges.{each, fits, package_fits, band_fits}
+use Rattle.clearing.specs.Ranges.{fits, package_fits, band_fits}
 use Rattle.clearing.proofs.Filling.{best-filled, parts_of_one}
 use Rattle.clearing.proofs.FillingOrder.{InOrder}
 
 pub record Ranged (v : View) : Type 0 where
   pub few_packages : length v.packages ≤ 40
   pub few_bands : length v.bands ≤ 64
-  pub packages : each package_fits v.packages ≡ true
-  pub bands : each band_fits v.bands ≡ true
+  pub packages : list_all package_fits v.packages ≡ true
+  pub bands : list_all band_fits v.bands ≡ true
   pub order : InOrder v
-  pub pairs : each (fits pair_layout) v.pairs ≡ true
-  pub exclusions : each (fits exclusion_layout) v.exclusions ≡ true
-  pub limits : each (fits limit_layout) v.limits ≡ true
+  pub pairs : list_all (fits pair_layout) v.pairs ≡ true
+  pub exclusions : list_all (fits exclusion_layout) v.exclusions ≡ true
+  pub limits : list_all (fits limit_layout) v.limits ≡ true
 
 -- so does a docket
 pub ranged_docket : (d : Docket) → Ranged (view d)

@@ -1,6 +1,6 @@
 -- The rules over a tally's rows say the same as those over the packages that it counts.
 use Rattle.std.proofs.Common.{◌≡◌, ℕ, ◌-◌, ◌≤◌, Bool, true, false, List, [], ◌∷◌, get_or, sym, ap, ◌∙◌, subst, zero-add, arith}
-use Rattle.std.specs.List.{AllByRecursion as Every}
+use Rattle.std.specs.List.{AllByRecursion as Every, list_all}
 use Rattle.std.proofs.lemmas.Bool.{and_parts}
 use Rattle.offers.specs.declared.records.Pair.{Pair}
 use Rattle.offers.specs.declared.records.Exclusion.{Exclusion}
@@ -10,7 +10,7 @@ use Rattle.clearing.specs.declared.dockets.PricedPackage.{PricedPackage}
 use Rattle.clearing.specs.declared.tallies.Tally.{Tally}
 use Rattle.clearing.specs.Choices.{nameplates, exports, has_number}
 use Rattle.clearing.specs.Kept.{PairsKept, ExclusionsKept, ZonesKept}
-use Rattle.clearing.specs.Ranges.{each, fits}
+use Rattle.clearing.specs.Ranges.{fits}
 use Rattle.clearing.specs.Tallies.{row, tally_of}
 use Rattle.clearing.proofs.Fits.{pair_ranges, exclusion_ranges, limit_ranges}
 use Rattle.clearing.proofs.Rows.{getD_row}
@@ -25,10 +25,10 @@ Same P Q = (P → Q) × (Q → P)
 
 -- rules that say the same of each element in range say the same of a list
 each_same : {X : Type 0} (test : X → Bool) (P Q : X → Type 0) → ((x : X) → test x ≡ true → Same (P x) (Q x))
-    → (xs : List X) → each test xs ≡ true → Same (Every P xs) (Every Q xs)
+    → (xs : List X) → list_all test xs ≡ true → Same (Every P xs) (Every Q xs)
 each_same test P Q same [] ok = ((λ _. tt), (λ _. tt))
 each_same test P Q same (x ∷ xs) ok =
-    let parts = and_parts (test x) (each test xs) ok in
+    let parts = and_parts (test x) (list_all test xs) ok in
     let here = same x parts.0 in
     let rest = each_same test P Q same xs parts.1 in
     ((λ all. (here.0 all.0, rest.0 all.1)), (λ all. (here.1 all.0, rest.1 all.1)))
@@ -51,7 +51,7 @@ takes_is T t counted n h =
 
 module _ (T : List PricedPackage) (t : Tally) (counted : t ≡ tally_of T) where
   -- the rule of pairs says the same over both, the needed packages being among others
-  pub pairs-same : (W : List PricedPackage) (w : Tally) → w ≡ tally_of W → (ps : List Pair) → each (fits pair_layout) ps ≡ true
+  pub pairs-same : (W : List PricedPackage) (w : Tally) → w ≡ tally_of W → (ps : List Pair) → list_all (fits pair_layout) ps ≡ true
       → Same (PairsKept ps t.takes w.takes) (Every (λ p. has_number p.dependent T ≡ true → has_number p.needed W ≡ true) ps)
   pairs-same W w others ps ok =
       each_same (fits pair_layout) _ _ (λ p e.
@@ -61,7 +61,7 @@ module _ (T : List PricedPackage) (t : Tally) (counted : t ≡ tally_of T) where
       ((λ kept has. sym needed ∙ kept (dependent ∙ has)), (λ kept has. needed ∙ kept (sym dependent ∙ has)))) ps ok
 
   -- so does the rule of exclusions
-  pub exclusions-same : (xs : List Exclusion) → each (fits exclusion_layout) xs ≡ true
+  pub exclusions-same : (xs : List Exclusion) → list_all (fits exclusion_layout) xs ≡ true
       → Same (ExclusionsKept xs t.takes) (Every (λ e. Every (λ f. e.group ≡ f.group → has_number e.member T ≡ true → has_number f.member T ≡ true → e.member ≡ f.member) xs) xs)
   exclusions-same xs ok =
       each_same (fits exclusion_layout) _ _ (λ x e.
@@ -72,7 +72,7 @@ module _ (T : List PricedPackage) (t : Tally) (counted : t ≡ tally_of T) where
       xs ok) xs ok
 
   -- so do the limits of zones
-  pub zones-same : (ls : List Limit) → each (fits limit_layout) ls ≡ true
+  pub zones-same : (ls : List Limit) → list_all (fits limit_layout) ls ≡ true
       → Same (ZonesKept ls t.nameplate t.export) (Every (λ l. (l.sort ≡ 1 → nameplates l.zone T ≤ l.amount) × (l.sort ≡ 2 → exports l.zone T ≤ l.amount)) ls)
   zones-same ls ok =
       each_same (fits limit_layout) _ _ (λ l e.

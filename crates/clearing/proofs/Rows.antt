@@ -1,8 +1,7 @@
 -- Rows of numbers: one more at a place, two rows added, and what each of a row is at most.
+use Rattle.std.specs.List.{list_all}
 use Rattle.std.proofs.Common.{◌≡◌, ℕ, zero, suc, ◌+◌, ◌<◌, ◌≤◌, Bool, true, false, cond, ◌&&◌, eqb, List, [], ◌∷◌, length, get_or, set, sym, refl, ap, ◌∙◌, add-zero, arith}
 use Rattle.std.proofs.lemmas.Bool.{and_from, eq-eqb, ne_eqb, cond-true, cond-false}
-use Rattle.clearing.specs.Choices.{where_so}
-use Rattle.clearing.specs.Ranges.{each}
 use Rattle.clearing.specs.Tallies.{row, plus}
 
 -- a row has as many as are asked for
@@ -23,7 +22,7 @@ row_same f g n (suc count) same =
     rw (same n (omega arith), row_same f g (n + 1) count (λ m h. same m (omega arith)))
 
 -- a test that a function passes at every number is passed by each of its row
-pub row-each : {X : Type 0} (test : X → Bool) (f : ℕ → X) (n count : ℕ) → ((m : ℕ) → test (f m) ≡ true) → each test (row f n count) ≡ true
+pub row-each : {X : Type 0} (test : X → Bool) (f : ℕ → X) (n count : ℕ) → ((m : ℕ) → test (f m) ≡ true) → list_all test (row f n count) ≡ true
 row-each test f n zero ok = refl
 row-each test f n (suc count) ok = and_from (test (f n)) _ (ok n) (row-each test f (n + 1) count ok)
 
@@ -63,9 +62,9 @@ plus-at (y ∷ xs) f x n (suc count) (suc i) long h here there =
     rw (first, add-zero, plus-at xs f x (n + 1) count i (omega arith) (omega arith) (ap f past ∙ here) (λ m ne. there m (λ e. ne (e ∙ sym past))))
 
 -- adding at the place of one number, as adding a row that is nothing at the others
-pub plus_one : (xs : List ℕ) (j x n count i : ℕ) → length xs ≡ count → i < count → n + i ≡ j → set xs i (get_or xs i 0 + x) ≡ plus xs (row (λ m. where_so (eqb j m) x) n count)
+pub plus_one : (xs : List ℕ) (j x n count i : ℕ) → length xs ≡ count → i < count → n + i ≡ j → set xs i (get_or xs i 0 + x) ≡ plus xs (row (λ m. cond (eqb j m) x 0) n count)
 plus_one xs j x n count i long h at =
-    plus-at xs (λ m. where_so (eqb j m) x) x n count i long h
+    plus-at xs (λ m. cond (eqb j m) x 0) x n count i long h
     (cond-true (eqb j (n + i)) x 0 (eq-eqb j (n + i) (sym at)))
     (λ m ne. cond-false (eqb j m) x 0 (ne_eqb j m (λ e. ne (sym (at ∙ e)))))
 
@@ -84,16 +83,16 @@ length-plus (x ∷ xs) f n zero long = absurd (omega arith)
 length-plus (x ∷ xs) f n (suc count) long = ap suc (length-plus xs f (n + 1) count (omega arith))
 
 -- an amount counted only where a test holds is at most the amount
-pub where_most : (b : Bool) (n most : ℕ) → n ≤ most → where_so b n ≤ most
+pub where_most : (b : Bool) (n most : ℕ) → n ≤ most → cond b n 0 ≤ most
 where_most true n most h = h
 where_most false n most h = omega arith
 
 -- an amount counted where two tests hold is counted where the second holds, if the first does
-pub where_both : (b t : Bool) (n : ℕ) → where_so (b && t) n ≡ where_so b (where_so t n)
+pub where_both : (b t : Bool) (n : ℕ) → cond (b && t) n 0 ≡ cond b (cond t n 0) 0
 where_both true t n = refl
 where_both false t n = refl
 
 -- adding a row where a test holds, with nothing besides
-pub plus_where : (b : Bool) (xs : List ℕ) (f : ℕ → ℕ) (n count : ℕ) → length xs ≡ count → plus xs (row (λ m. where_so b (f m) + 0) n count) ≡ cond b (plus xs (row f n count)) xs
+pub plus_where : (b : Bool) (xs : List ℕ) (f : ℕ → ℕ) (n count : ℕ) → length xs ≡ count → plus xs (row (λ m. cond b (f m) 0 + 0) n count) ≡ cond b (plus xs (row f n count)) xs
 plus_where true xs f n count long = ap (plus xs) (row_same (λ m. f m + 0) f n count (λ m h. add-zero (f m)))
 plus_where false xs f n count long = plus_none xs (λ m. 0 + 0) n count long (λ m h. refl)

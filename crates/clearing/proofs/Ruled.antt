@@ -1,12 +1,12 @@
 -- The rules over a tally's rows and the sales say the same as those over what a choice takes and the filled sales.
-use Rattle.std.proofs.Common.{◌≡◌, ℕ, ◌+◌, ◌-◌, ◌*◌, ◌≤◌, eqb, List, [], ◌∷◌, map, get_or, pos, ◌-ℤ◌, vec_items, refl, ap, ◌∙◌, arith, w64, to_z, of_z}
+use Rattle.std.proofs.Common.{◌≡◌, ℕ, ◌+◌, ◌-◌, ◌*◌, ◌≤◌, eqb, List, [], ◌∷◌, map, get_or, pos, ◌-ℤ◌, vec_items, refl, ap, ◌∙◌, arith, w64, to_z, of_z, cond}
 use Rattle.std.proofs.lemmas.Int.{ints}
 use Rattle.clearing.specs.declared.dockets.PricedPackage.{PricedPackage}
 use Rattle.clearing.specs.declared.dockets.OpenBand.{OpenBand}
 use Rattle.clearing.specs.declared.dockets.Docket.{Docket}
 use Rattle.clearing.specs.declared.tallies.Tally.{Tally}
 use Rattle.clearing.specs.declared.sales.Sales.{Sales}
-use Rattle.clearing.specs.Choices.{taken, where_so, supply, dated}
+use Rattle.clearing.specs.Choices.{taken, supply, dated}
 use Rattle.clearing.specs.Kept.{Share, PairsKept, ExclusionsKept, ZonesKept, DatesKept}
 use Rattle.clearing.specs.Lawful.{View, view, sold, income, percentage, Lawful, filled_sales}
 use Rattle.clearing.specs.Sales.{filled, sold_in, sales_of}
@@ -21,7 +21,7 @@ use Rattle.clearing.proofs.Sellings.{Sold}
 sold-filled : (supply : List ℕ) (bs : List OpenBand) (m : ℕ) → sold_in bs supply m ≡ sold bs (map (filled supply) bs) m
 sold-filled supply [] m = refl
 sold-filled supply (b ∷ bs) m =
-    ap (λ n. where_so (eqb b.«record».market m) (filled supply b) + n) (sold-filled supply bs m)
+    ap (λ n. cond (eqb b.terms.market m) (filled supply b) 0 + n) (sold-filled supply bs m)
 
 -- The rules as they are tested over a tally and what is sold by market.
 pub record Ruled (v : View) (t : Tally) (s : Sales) : Type 0 where

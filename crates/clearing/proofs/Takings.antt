@@ -1,4 +1,5 @@
 -- What a choice takes of the packages, one after another, and that its sums are bounded.
+use Rattle.std.specs.List.{list_all}
 use Rattle.std.proofs.Common.{◌≡◌, ℕ, suc, ◌+◌, ◌/◌, ◌%◌, ◌<◌, ◌≤◌, Bool, true, eqb, List, [], ◌∷◌, length, get_or, take, vec_items, Bor, sym, refl, ap, ◌∙◌, arith, length-take}
 use Rattle.std.proofs.lemmas.List.{take_more}
 use Rattle.std.specs.Iterator.{YieldsFirstBy}
@@ -10,18 +11,18 @@ use Rattle.clearing.specs.declared.dockets.PricedPackage.{PricedPackage}
 use Rattle.clearing.specs.declared.dockets.Docket.{Docket}
 use Rattle.clearing.specs.declared.choices.Taken.{Taken}
 use Rattle.clearing.specs.Choices.{taken, still_taken}
-use Rattle.clearing.specs.Ranges.{each, package_fits}
+use Rattle.clearing.specs.Ranges.{package_fits}
 use Rattle.clearing.specs.Tallies.{Room, tally_of, added}
 use Rattle.clearing.proofs.Fits.{each_item, each_take}
 use Rattle.clearing.proofs.Tallying.{tally_last, Bounded, tally_bounded, cost_between, Priced, room_for}
 
 -- what is taken of packages in range is in range
-pub taken-fits : (f : PricedPackage → Bool) (ps : List PricedPackage) (choice : ℕ) → each f ps ≡ true → each f (taken ps choice) ≡ true
+pub taken-fits : (f : PricedPackage → Bool) (ps : List PricedPackage) (choice : ℕ) → list_all f ps ≡ true → list_all f (taken ps choice) ≡ true
 taken-fits f [] choice ok = refl
 taken-fits f (p ∷ ps) choice ok =
-    let parts = and_parts (f p) (each f ps) ok in
+    let parts = and_parts (f p) (list_all f ps) ok in
     let rest = taken-fits f ps (choice / 2) parts.1 in
-    cond_both (eqb (choice % 2) 1) _ _ (λ qs. each f qs ≡ true) (λ _. and_from (f p) _ parts.0 rest) (λ _. rest)
+    cond_both (eqb (choice % 2) 1) _ _ (λ qs. list_all f qs ≡ true) (λ _. and_from (f p) _ parts.0 rest) (λ _. rest)
 
 -- no more are taken than there are
 pub taken-few : (ps : List PricedPackage) (choice : ℕ) → length (taken ps choice) ≤ length ps
@@ -32,7 +33,7 @@ taken-few (p ∷ ps) choice =
 
 module _ (d : Docket) (choice : ℕ) where
   -- what a choice takes of a docket is in range
-  taken_ok : each package_fits (taken (vec_items d.packages.list) choice) ≡ true
+  taken_ok : list_all package_fits (taken (vec_items d.packages.list) choice) ≡ true
   taken_ok = taken-fits package_fits (vec_items d.packages.list) choice d.packages_fit
 
   -- and no more than 40

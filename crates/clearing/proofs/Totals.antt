@@ -1,8 +1,8 @@
 -- Sums over a list: one list after another, and what a sum is at most.
+use Rattle.std.specs.List.{list_all}
 use Rattle.std.proofs.Common.{◌≡◌, ℕ, ◌+◌, ◌*◌, ◌≤◌, Bool, true, leb, List, [], ◌∷◌, ◌++◌, length, sym, ◌∙◌, mul-le-mul_right, add-mul, arith}
 use Rattle.std.proofs.lemmas.Bool.{and_parts, le-leb}
 use Rattle.clearing.specs.Choices.{total}
-use Rattle.clearing.specs.Ranges.{each}
 use Rattle.clearing.specs.Tallies.{row, plus}
 use Rattle.clearing.proofs.Rows.{row_same, row-each, plus-row}
 
@@ -12,10 +12,10 @@ total-append f [] ys = omega arith
 total-append f (x ∷ xs) ys = omega (arith, total-append f xs ys)
 
 -- the sum over elements that pass a test is at most their count times what one is at most
-pub total-most : {X : Type 0} (test : X → Bool) (f : X → ℕ) (most : ℕ) (xs : List X) → ((x : X) → test x ≡ true → f x ≤ most) → each test xs ≡ true → total f xs ≤ length xs * most
+pub total-most : {X : Type 0} (test : X → Bool) (f : X → ℕ) (most : ℕ) (xs : List X) → ((x : X) → test x ≡ true → f x ≤ most) → list_all test xs ≡ true → total f xs ≤ length xs * most
 total-most test f most [] small ok = omega arith
 total-most test f most (x ∷ xs) small ok =
-    let parts = and_parts (test x) (each test xs) ok in
+    let parts = and_parts (test x) (list_all test xs) ok in
     omega (arith, small x parts.0, total-most test f most xs small parts.1, add-mul 1 (length xs) most)
 
 -- rows of sums over two lists, one after the other
@@ -27,8 +27,8 @@ totals_append f xs ys n count =
 
 -- each of a row of sums over at most so many elements is at most so many times what one is at most
 pub totals_most : {X : Type 0} (test : X → Bool) (f : ℕ → X → ℕ) (few most all : ℕ) (xs : List X) (n count : ℕ)
-    → ((m : ℕ) (x : X) → test x ≡ true → f m x ≤ most) → each test xs ≡ true → length xs ≤ few → few * most ≤ all
-    → each (λ s. leb s all) (row (λ m. total (f m) xs) n count) ≡ true
+    → ((m : ℕ) (x : X) → test x ≡ true → f m x ≤ most) → list_all test xs ≡ true → length xs ≤ few → few * most ≤ all
+    → list_all (λ s. leb s all) (row (λ m. total (f m) xs) n count) ≡ true
 totals_most test f few most all xs n count small ok short room =
     row-each (λ s. leb s all) (λ m. total (f m) xs) n count
     (λ m. le-leb (total (f m) xs) all (omega (arith, total-most test (f m) most xs (small m) ok, mul-le-mul_right most short)))

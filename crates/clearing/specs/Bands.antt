@@ -1,27 +1,27 @@
 -- Which band is served before which, and what stands ahead of a band. Assumes nothing.
-use Rattle.std.specs.Prelude.{ℕ, Bool, true, ◌&&◌, ◌||◌, List, [], ◌∷◌, map, ◌==◌, nat_lt}
+use Rattle.std.specs.Prelude.{ℕ, Bool, true, ◌&&◌, ◌||◌, List, [], ◌∷◌, map, ◌==◌, nat_lt, if◌then◌else◌}
 use Rattle.offers.specs.declared.records.Band.{Band}
 use Rattle.clearing.specs.declared.dockets.OpenBand.{OpenBand}
-use Rattle.clearing.specs.Choices.{total, where_so}
+use Rattle.clearing.specs.Choices.{total}
 
 -- A record with its offer number.
 pub record Numbered (R : Type 0) : Type 0 where
   pub number : ℕ
-  pub of : R
+  pub terms : R
 
 -- a band as it was offered
 abbrev pub offered : OpenBand → Numbered Band
-offered b = record { number = b.number; of = b.«record» }
+offered b = record { number = b.number; terms = b.terms }
 
 -- a band is served before another of its market if its price is higher, or equal and its number smaller
 abbrev pub comes_ahead : Numbered Band → Numbered Band → Bool
 comes_ahead a b =
-    (a.of.market == b.of.market)
-    && (nat_lt b.of.price a.of.price || (a.of.price == b.of.price && nat_lt a.number b.number))
+    (a.terms.market == b.terms.market)
+    && (nat_lt b.terms.price a.terms.price || (a.terms.price == b.terms.price && nat_lt a.number b.number))
 
 -- what the bands that are served before a band would take
 abbrev pub ahead_of : List (Numbered Band) → Numbered Band → ℕ
-ahead_of bands b = total (λ a. where_so (comes_ahead a b) a.of.quantity) bands
+ahead_of bands b = total (λ a. if comes_ahead a b then a.terms.quantity else 0) bands
 
 -- each number is greater than those before it, which are all at least `low`
 abbrev pub rises_from : ℕ → List ℕ → Bool

@@ -13,15 +13,11 @@ use Rattle.offers.specs.Memory.{Entries, Sound}
 use Rattle.offers.specs.Registers.{Outcome, entry}
 use Rattle.offers.specs.Tables.{package_layout}
 use Rattle.pricing.specs.declared.rules.Fault.{Fault}
-use Rattle.pricing.specs.Prices.{Bounded}
+use Rattle.pricing.specs.Prices.{BoundedRule, Meaning}
 use Rattle.clearing.specs.declared.dockets.PricedPackage.{PricedPackage}
 use Rattle.clearing.specs.declared.dockets.OpenBand.{OpenBand}
 use Rattle.clearing.specs.Bands.{Numbered, offered, ahead_of, rises_from, rising}
 use Rattle.clearing.specs.Lawful.{View, nothing_open}
-
--- a price rule's meaning: one price or fault for each package record
-abbrev pub Meaning : Type 0
-Meaning = Package → Result ℤ Fault
 
 -- number n of a register is open with record r
 abbrev pub OpenWith : {R : Type 0} → List (Entry R) → ℕ → R → Type 0
@@ -32,11 +28,11 @@ OpenWith es n r = (1 ≤ n) × (entry es n ≡ Open r)
 pub record OfOpen (all : Entries) (price : Meaning) (docket : View) : Type 0 where
   -- a package stands in it exactly if its number is open with its record, and its price is what the rule means
   pub packages : (p : PricedPackage)
-      → Contains docket.packages p ↔ (OpenWith all.packages p.number p.«record» × (price p.«record» ≡ Ok p.price))
+      → Contains docket.packages p ↔ (OpenWith all.packages p.number p.terms × (price p.terms ≡ Ok p.price))
   -- no open package is left out for want of a price
   pub all_priced : (n : ℕ) (r : Package) → OpenWith all.packages n r → IsOk (price r)
   -- a band, as it was offered, exactly if its number is open with its record
-  pub bands : (b : Numbered Band) → Contains (map offered docket.bands) b ↔ OpenWith all.bands b.number b.of
+  pub bands : (b : Numbered Band) → Contains (map offered docket.bands) b ↔ OpenWith all.bands b.number b.terms
   -- a pair exactly if some number is open with it
   pub pairs : (r : Pair) → Contains docket.pairs r ↔ ((n : ℕ) × OpenWith all.pairs n r)
   -- an exclusion likewise
@@ -52,16 +48,16 @@ pub record OfOpen (all : Entries) (price : Meaning) (docket : View) : Type 0 whe
 abbrev pub open_from : {R : Type 0} → ℕ → List (Entry R) → List (Numbered R)
 open_from n [] = []
 open_from n (Vacant ∷ es) = open_from (n + 1) es
-open_from n (Open r ∷ es) = record { number = n; of = r } ∷ open_from (n + 1) es
+open_from n (Open r ∷ es) = record { number = n; terms = r } ∷ open_from (n + 1) es
 open_from n (Withdrawn r ∷ es) = open_from (n + 1) es
 
 abbrev pub open_records : {R : Type 0} → List (Entry R) → List R
-open_records es = map (λ r. r.of) (open_from 1 es)
+open_records es = map (λ r. r.terms) (open_from 1 es)
 
 -- each open band with what stands ahead of it
 abbrev pub open_bands : List (Entry Band) → List OpenBand
 open_bands es =
-    map (λ b. record { number = b.number; ahead = ahead_of (open_from 1 es) b; «record» = b.of }) (open_from 1 es)
+    map (λ b. record { number = b.number; ahead = ahead_of (open_from 1 es) b; terms = b.terms }) (open_from 1 es)
 
 -- a package without a price refuses the closing: its tag, its number, and the depth of the rule that had none
 abbrev pub no_price : ℕ → Fault → Refusal
@@ -72,13 +68,13 @@ followed_by p (Ok ps) = Ok (p ∷ ps)
 followed_by p (Err e) = Err e
 
 abbrev pub priced_as : Numbered Package → Result ℤ Fault → Result (List PricedPackage) Refusal → Result (List PricedPackage) Refusal
-priced_as p (Ok price) rest = followed_by (record { number = p.number; price = price; «record» = p.of }) rest
+priced_as p (Ok price) rest = followed_by (record { number = p.number; price = price; terms = p.terms }) rest
 priced_as p (Err fault) rest = Err (no_price p.number fault)
 
 -- each package with its price; the first without one refuses
 abbrev pub priced : Meaning → List (Numbered Package) → Result (List PricedPackage) Refusal
 priced meaning [] = Ok []
-priced meaning (p ∷ ps) = priced_as p (meaning p.of) (priced meaning ps)
+priced meaning (p ∷ ps) = priced_as p (meaning p.terms) (priced meaning ps)
 
 abbrev pub docket_with : Entries → List PricedPackage → View
 docket_with all ps = record {
@@ -90,8 +86,8 @@ docket_with all ps = record {
 }
 
 abbrev pub closed_with : View → Entries → Result (List PricedPackage) Refusal → Outcome View
-closed_with before all (Ok ps) = record { answer = Ok tt; left = docket_with all ps }
-closed_with before all (Err e) = record { answer = Err e; left = before }
+closed_with before all (Ok ps) = record { answer = Ok tt; after = docket_with all ps }
+closed_with before all (Err e) = record { answer = Err e; after = before }
 
 -- A closing copies what is open and prices each package; a price fault leaves the docket as it was.
 abbrev pub closing : View → Entries → Meaning → Outcome View
@@ -102,5 +98,5 @@ pub record ByClosing (v : View) : Type 0 where
   pub entries : Entries
   pub meaning : Meaning
   pub sound : Sound entries
-  pub bounded : (p : Package) → Bounded (meaning p)
-  pub accepted : closing nothing_open entries meaning ≡ record { answer = Ok tt; left = v }
+  pub bounded : BoundedRule meaning
+  pub accepted : closing nothing_open entries meaning ≡ record { answer = Ok tt; after = v }

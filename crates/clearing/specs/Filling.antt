@@ -9,7 +9,7 @@ abbrev pub PartsWithin : ℕ → List OpenBand → List ℕ → Type 0
 PartsWithin d [] [] = Unit {0}
 PartsWithin d [] (s ∷ ss) = ⊥
 PartsWithin d (b ∷ bs) [] = ⊥
-PartsWithin d (b ∷ bs) (s ∷ ss) = (s ≤ d * b.«record».quantity) × PartsWithin d bs ss
+PartsWithin d (b ∷ bs) (s ∷ ss) = (s ≤ d * b.terms.quantity) × PartsWithin d bs ss
 
 -- What the filled sales of a choice are among all sales of it.
 pub record BestFilled (v : View) (choice : ℕ) : Type 0 where

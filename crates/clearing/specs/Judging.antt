@@ -1,31 +1,31 @@
 -- What a choice is worth, worked out: the rules of a lawful choice as tests. Assumes nothing.
-use Rattle.std.specs.Prelude.{ℕ, ◌*◌, Bool, cond, not, ◌&&◌, ◌||◌, List, [], ◌∷◌, ℤ, Some, None, Option, ◌==◌, nat_le}
+use Rattle.std.specs.List.{list_all}
+use Rattle.std.specs.Prelude.{ℕ, ◌*◌, Bool, not, ◌&&◌, ◌||◌, List, [], ◌∷◌, ℤ, Some, None, Option, ◌==◌, nat_le, if◌then◌else◌}
 use Rattle.offers.specs.declared.records.Pair.{Pair}
 use Rattle.offers.specs.declared.records.Exclusion.{Exclusion}
 use Rattle.offers.specs.declared.records.Limit.{Limit}
 use Rattle.clearing.specs.declared.dockets.PricedPackage.{PricedPackage}
 use Rattle.clearing.specs.Choices.{taken, dated, nameplates, exports, has_number}
 use Rattle.clearing.specs.Lawful.{View, sold, percentage, surplus, filled_sales}
-use Rattle.clearing.specs.Ranges.{each}
 
 abbrev pub implies : Bool → Bool → Bool
 implies a b = not a || b
 
 -- each package of T that needs another has it among W
-abbrev pub pairs_met : List Pair → List PricedPackage → List PricedPackage → Bool
-pairs_met pairs T W = each (λ p. implies (has_number p.dependent T) (has_number p.needed W)) pairs
+abbrev pub pairs_kept : List Pair → List PricedPackage → List PricedPackage → Bool
+pairs_kept pairs T W = list_all (λ p. implies (has_number p.dependent T) (has_number p.needed W)) pairs
 
 -- no two different packages of a group are in T
-abbrev pub groups_apart : List Exclusion → List PricedPackage → Bool
-groups_apart exclusions T =
-    each (λ e. each (λ f.
+abbrev pub exclusions_kept : List Exclusion → List PricedPackage → Bool
+exclusions_kept exclusions T =
+    list_all (λ e. list_all (λ f.
     implies (e.group == f.group && (has_number e.member T && has_number f.member T)) (e.member == f.member))
     exclusions) exclusions
 
 -- unqualified nameplates and energy stay within the limits of their zones
-abbrev pub zones_within : List Limit → List PricedPackage → Bool
-zones_within limits T =
-    each (λ l.
+abbrev pub zones_kept : List Limit → List PricedPackage → Bool
+zones_kept limits T =
+    list_all (λ l.
     implies (l.sort == 1) (nat_le (nameplates l.zone T) l.amount)
     && implies (l.sort == 2) (nat_le (exports l.zone T) l.amount))
     limits
@@ -34,18 +34,18 @@ zones_within limits T =
 abbrev pub share_kept : View → List PricedPackage → List ℕ → ℕ → ℕ → ℕ → Bool
 share_kept v T sales zone date m = nat_le (100 * dated date m T) (percentage v.limits zone * sold v.bands sales m)
 
-abbrev pub dates_within : View → List PricedPackage → List ℕ → Bool
-dates_within v T sales =
-    each (λ m. share_kept v T sales 1 1 m && share_kept v T sales 2 2 m) (1 ∷ 2 ∷ 3 ∷ [])
+abbrev pub dates_kept : View → List PricedPackage → List ℕ → Bool
+dates_kept v T sales =
+    list_all (λ m. share_kept v T sales 1 1 m && share_kept v T sales 2 2 m) (1 ∷ 2 ∷ 3 ∷ [])
     && (share_kept v T sales 3 1 5 && share_kept v T sales 4 2 5)
 
 -- Filled sales are within quantities and supply whatever is taken, so this is all that a choice with them has to keep.
 abbrev pub passes : View → List PricedPackage → List ℕ → Bool
 passes v T sales =
-    pairs_met v.pairs T T
-    && (groups_apart v.exclusions T && (zones_within v.limits T && dates_within v T sales))
+    pairs_kept v.pairs T T
+    && (exclusions_kept v.exclusions T && (zones_kept v.limits T && dates_kept v T sales))
 
 -- what a choice is worth with filled sales, if it is lawful with them
 abbrev pub worth_of : View → ℕ → Option ℤ
 worth_of v choice =
-    cond (passes v (taken v.packages choice) (filled_sales v choice)) (Some (surplus v choice (filled_sales v choice))) None
+    if passes v (taken v.packages choice) (filled_sales v choice) then Some (surplus v choice (filled_sales v choice)) else None

@@ -1,5 +1,5 @@
 -- What a lawful choice is, what it is worth, and which is best. Nothing here searches. Assumes nothing.
-use Rattle.std.specs.Prelude.{◌≡◌, ℕ, ◌+◌, ◌*◌, ◌^◌, ◌<◌, ◌≤◌, min, true, cond, ◌&&◌, List, [], ◌∷◌, map, length, ℤ, pos, ◌-ℤ◌, ◌≤ℤ◌, Some, None, vec_items, Option, ◌==◌}
+use Rattle.std.specs.Prelude.{◌≡◌, ℕ, ◌+◌, ◌*◌, ◌^◌, ◌<◌, ◌≤◌, min, true, ◌&&◌, List, [], ◌∷◌, map, length, ℤ, pos, ◌-ℤ◌, ◌≤ℤ◌, Some, None, vec_items, Option, ◌==◌, if◌then◌else◌}
 use Rattle.std.specs.List.{AllByRecursion as Every}
 use Rattle.offers.specs.declared.records.Pair.{Pair}
 use Rattle.offers.specs.declared.records.Exclusion.{Exclusion}
@@ -7,7 +7,7 @@ use Rattle.offers.specs.declared.records.Limit.{Limit}
 use Rattle.clearing.specs.declared.dockets.PricedPackage.{PricedPackage}
 use Rattle.clearing.specs.declared.dockets.OpenBand.{OpenBand}
 use Rattle.clearing.specs.declared.dockets.Docket.{Docket}
-use Rattle.clearing.specs.Choices.{taken, total, where_so, markets, supply, dated, nameplates, exports, cost, has_number}
+use Rattle.clearing.specs.Choices.{taken, total, markets, supply, dated, nameplates, exports, cost, has_number}
 use Rattle.clearing.specs.Sales.{filled}
 use Rattle.clearing.specs.Tallies.{row}
 
@@ -37,19 +37,19 @@ abbrev pub WithinQuantities : List OpenBand → List ℕ → Type 0
 WithinQuantities [] [] = Unit {0}
 WithinQuantities [] (s ∷ ss) = ⊥
 WithinQuantities (b ∷ bs) [] = ⊥
-WithinQuantities (b ∷ bs) (s ∷ ss) = (s ≤ b.«record».quantity) × WithinQuantities bs ss
+WithinQuantities (b ∷ bs) (s ∷ ss) = (s ≤ b.terms.quantity) × WithinQuantities bs ss
 
 -- what is sold in a market
 abbrev pub sold : List OpenBand → List ℕ → ℕ → ℕ
 sold [] ss m = 0
 sold (b ∷ bs) [] m = 0
-sold (b ∷ bs) (s ∷ ss) m = where_so (b.«record».market == m) s + sold bs ss m
+sold (b ∷ bs) (s ∷ ss) m = (if b.terms.market == m then s else 0) + sold bs ss m
 
 -- the income of a market, in pesos: over its bands, sold times price
 abbrev pub market_income : List OpenBand → List ℕ → ℕ → ℕ
 market_income [] ss m = 0
 market_income (b ∷ bs) [] m = 0
-market_income (b ∷ bs) (s ∷ ss) m = where_so (b.«record».market == m) (s * b.«record».price) + market_income bs ss m
+market_income (b ∷ bs) (s ∷ ss) m = (if b.terms.market == m then s * b.terms.price else 0) + market_income bs ss m
 
 -- the incomes of the markets together
 abbrev pub income : List OpenBand → List ℕ → ℕ
@@ -58,7 +58,7 @@ income bands sales = total (market_income bands sales) markets
 -- the percentage that binds: the least of those that are set for it, or 100
 abbrev pub percentage : List Limit → ℕ → ℕ
 percentage [] zone = 100
-percentage (l ∷ ls) zone = cond (l.sort == 3 && l.zone == zone) (min l.amount (percentage ls zone)) (percentage ls zone)
+percentage (l ∷ ls) zone = if l.sort == 3 && l.zone == zone then min l.amount (percentage ls zone) else percentage ls zone
 
 -- A choice with a sale for each open band is lawful if it keeps these rules. T are the packages that it takes.
 pub record LawfulFor (v : View) (T : List PricedPackage) (sales : List ℕ) : Type 0 where

@@ -1,14 +1,13 @@
 -- What the taken packages come to, set out as the code holds it. Assumes nothing.
-use Rattle.std.specs.Prelude.{◌≡◌, ℕ, zero, suc, ◌+◌, true, List, [], ◌∷◌, pos, negsuc, ◌+ℤ◌, ◌≤ℤ◌, nat_le, slice_set}
-use Rattle.clearing.specs.Ranges.{each}
+use Rattle.std.specs.List.{list_all, range_with_len}
+use Rattle.std.specs.Prelude.{◌≡◌, ℕ, zero, suc, ◌+◌, true, List, [], ◌∷◌, pos, ◌+ℤ◌, ◌≤ℤ◌, nat_le, slice_set, map, neg_ℤ}
 use Rattle.clearing.specs.declared.dockets.PricedPackage.{PricedPackage}
 use Rattle.clearing.specs.declared.tallies.Tally.{Tally}
 use Rattle.clearing.specs.Choices.{supply, dated, nameplates, exports, cost, has_number}
 
 -- f n, f (n + 1) and so on, as many as asked for
 abbrev pub row : {X : Type 0} → (ℕ → X) → ℕ → ℕ → List X
-row f n zero = []
-row f n (suc count) = f n ∷ row f (n + 1) count
+row f n count = map f (range_with_len n count)
 
 abbrev pub tally_of : List PricedPackage → Tally
 tally_of ps = record {
@@ -41,10 +40,10 @@ added t p = record {
 
 -- one package more can be added with no overflow: at most 39 are in already
 pub record Room (t : Tally) : Type 0 where
-  pub supply : each (λ n. nat_le n 390000000) t.supply ≡ true
-  pub before : each (λ n. nat_le n 390000000) t.before ≡ true
-  pub after : each (λ n. nat_le n 390000000) t.after ≡ true
-  pub nameplate : each (λ n. nat_le n 390000000) t.nameplate ≡ true
-  pub export : each (λ n. nat_le n 390000000) t.export ≡ true
-  pub low : negsuc 779999999999 ≤ℤ t.cost
+  pub supply : list_all (λ n. nat_le n 390000000) t.supply ≡ true
+  pub before : list_all (λ n. nat_le n 390000000) t.before ≡ true
+  pub after : list_all (λ n. nat_le n 390000000) t.after ≡ true
+  pub nameplate : list_all (λ n. nat_le n 390000000) t.nameplate ≡ true
+  pub export : list_all (λ n. nat_le n 390000000) t.export ≡ true
+  pub low : neg_ℤ (pos 780000000000) ≤ℤ t.cost
   pub high : t.cost ≤ℤ pos 780000000000

@@ -1,27 +1,14 @@
-// The packages that a choice takes of a docket, one after another.
-ghost use Rattle.std.specs.Prelude.{◌≡◌};
+//! The packages that a choice takes of a docket, one after another.
 ghost use Rattle.std.specs.Iterator.{YieldsFirstRef, item_count};
-ghost use Rattle.clearing.specs.Choices.{taken, still_taken};
+ghost use Rattle.clearing.specs.Choices.{still_taken};
 
-use crate::dockets::{Docket, PricedPackage};
+use crate::dockets::PricedPackage;
 
-// The packages that are not passed yet, and the digits of the choice that stand for them, the lowest for the first.
+/// The packages that are not passed yet, and the digits of the choice that stand for them, the lowest for the first.
 #[derive(Drop)]
 pub struct Taken<'a> {
-    packages: &'a [PricedPackage],
-    digits: u64,
-}
-
-impl Docket {
-    // What a choice takes. Its binary digits stand for the docket's packages, the lowest for the first.
-    pub fn taken(&self, choice: u64) -> Taken<'_>
-        ensures { still_taken result ≡ taken self.now.packages.list.items choice }
-    {
-        Taken {
-            packages: &self.packages.list,
-            digits: choice,
-        }
-    }
+    pub(crate) packages: &'a [PricedPackage],
+    pub(crate) digits: u64,
 }
 
 impl<'a> Iterator for Taken<'a> {

@@ -1,30 +1,34 @@
-// The docket: the records that were open at a closing, each package with its price.
+//! The docket: the records that were open at a closing, each package with its price.
+ghost use Rattle.std.specs.List.{list_all};
 ghost use Rattle.std.specs.Prelude.{◌≡◌, true};
 ghost use Rattle.offers.specs.Tables.{pair_layout, exclusion_layout, limit_layout};
 ghost use Rattle.clearing.specs.Bands.{rising, aheads, true_aheads};
-ghost use Rattle.clearing.specs.Ranges.{each, fits, package_fits, band_fits};
+ghost use Rattle.clearing.specs.Ranges.{fits, package_fits, band_fits};
 
 use crate::bounded::BoundedVec;
-use offers::records::{Band, Exclusion, Limit, Package, Pair};
+use crate::choices::Taken;
+use crate::closing::{copy_bands, copy_open, copy_packages, price_all};
+use offers::{Band, Exclusion, Limit, Offers, Package, Pair, Refusal};
+use pricing::PriceRule;
+use std::alloc::{AllocError, Global};
 
-// An open package with its offer number and its price in pesos. That it, or an open band, is in range is said by the docket and where
-// one is handed on: definitions make such values, and with an invariant each would have to prove it.
+/// An open package with its offer number and its price in pesos.
 #[derive(Clone, Copy)]
 pub struct PricedPackage {
     pub number: u8,
     pub price: i64,
-    pub record: Package,
+    pub terms: Package,
 }
 
-// An open band with its offer number, and what the bands that are served before it in its market would take.
+/// An open band with its offer number, and what the bands that are served before it in its market would take.
 #[derive(Clone, Copy)]
 pub struct OpenBand {
     pub number: u8,
     pub ahead: u64,
-    pub record: Band,
+    pub terms: Band,
 }
 
-// What was open at a closing, each kind by rising offer number. Its memory is got once, with the round.
+/// What was open at a closing, each kind by rising offer number. Its memory is got once, with the round.
 #[derive(Drop)]
 pub struct Docket {
     pub packages: BoundedVec<PricedPackage, 40>,
@@ -32,11 +36,72 @@ pub struct Docket {
     pub pairs: BoundedVec<Pair, 64>,
     pub exclusions: BoundedVec<Exclusion, 64>,
     pub limits: BoundedVec<Limit, 32>,
-    ghost packages_fit: { each package_fits packages.list.items ≡ true },
+    ghost packages_fit: { list_all package_fits packages.list.items ≡ true },
     ghost bands_rise: { rising bands.list.items ≡ true },
     ghost bands_ahead: { aheads bands.list.items ≡ true_aheads bands.list.items },
-    ghost bands_fit: { each band_fits bands.list.items ≡ true },
-    ghost pairs_fit: { each (fits pair_layout) pairs.list.items ≡ true },
-    ghost exclusions_fit: { each (fits exclusion_layout) exclusions.list.items ≡ true },
-    ghost limits_fit: { each (fits limit_layout) limits.list.items ≡ true },
+    ghost bands_fit: { list_all band_fits bands.list.items ≡ true },
+    ghost pairs_fit: { list_all (fits pair_layout) pairs.list.items ≡ true },
+    ghost exclusions_fit: { list_all (fits exclusion_layout) exclusions.list.items ≡ true },
+    ghost limits_fit: { list_all (fits limit_layout) limits.list.items ≡ true },
+}
+
+impl Docket {
+    ghost use Rattle.std.specs.Prelude.{IfOk, IfErr, Ok};
+    ghost use Rattle.offers.specs.Memory.{entries_in};
+    ghost use Rattle.offers.specs.Refusals.{Carries};
+    ghost use Rattle.clearing.specs.Choices.{taken, still_taken};
+    ghost use Rattle.clearing.specs.Closing.{ByClosing, OfOpen, closing};
+    ghost use Rattle.clearing.specs.Lawful.{view, nothing_open};
+
+    /// An empty docket, with memory for all that a round can have open.
+    pub fn new(heap: Global) -> Result<Docket, AllocError>
+        ensures { IfOk result (λ d. view d ≡ nothing_open) }
+    {
+        Ok(Docket {
+            packages: BoundedVec::new(heap)?,
+            bands: BoundedVec::new(heap)?,
+            pairs: BoundedVec::new(heap)?,
+            exclusions: BoundedVec::new(heap)?,
+            limits: BoundedVec::new(heap)?,
+        })
+    }
+
+    /// An empty docket again, with its memory.
+    pub fn clear(&mut self)
+        ensures { view self.new ≡ nothing_open }
+    {
+        self.packages.clear();
+        self.bands.clear();
+        self.pairs.clear();
+        self.exclusions.clear();
+        self.limits.clear();
+    }
+
+    /// Makes the docket of what is open, priced by a rule; a price fault leaves the docket as it was.
+    pub fn close<P: PriceRule>(&mut self, offers: &Offers, rule: &mut P) -> Result<(), Refusal>
+        ensures answer { result ≡ (closing (view self.old) (entries_in offers.now) (P.PriceRule.meaning rule.old)).answer }
+        ensures after { view self.new ≡ (closing (view self.old) (entries_in offers.now) (P.PriceRule.meaning rule.old)).after }
+        ensures same_rule { P.PriceRule.meaning rule.new ≡ P.PriceRule.meaning rule.old }
+        ensures by_closing { result ≡ Ok tt → ByClosing (view self.new) }
+        ensures of_open { result ≡ Ok tt → OfOpen (entries_in offers.now) (P.PriceRule.meaning rule.old) (view self.new) }
+        ensures carries { IfErr result Carries }
+    {
+        let prices = price_all(&offers.packages, rule)?;
+        copy_packages(&offers.packages, &prices, &mut self.packages);
+        copy_bands(&offers.bands, &mut self.bands);
+        copy_open(&offers.pairs, &mut self.pairs);
+        copy_open(&offers.exclusions, &mut self.exclusions);
+        copy_open(&offers.limits, &mut self.limits);
+        Ok(())
+    }
+
+    /// What a choice takes. Its binary digits stand for the docket's packages, the lowest for the first.
+    pub fn taken(&self, choice: u64) -> Taken<'_>
+        ensures { still_taken result ≡ taken self.now.packages.list.items choice }
+    {
+        Taken {
+            packages: &self.packages.list,
+            digits: choice,
+        }
+    }
 }

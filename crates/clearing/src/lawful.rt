@@ -1,32 +1,32 @@
-// Whether a choice keeps the rules.
-ghost use Rattle.std.specs.Prelude.{◌≡◌, ℕ, ◌-◌, ◌*◌, ◌≤◌, true, List, if◌then◌else◌, Decides, nat_eq, nat_le, slice_index};
+//! Whether a choice keeps the rules.
+ghost use Rattle.std.specs.List.{list_all};
+ghost use Rattle.std.specs.Prelude.{◌≡◌, ℕ, ◌-◌, ◌*◌, ◌≤◌, true, List, if◌then◌else◌, nat_eq, nat_le, slice_index, IsTrue, ◌↔◌};
 ghost use Rattle.offers.specs.Tables.{limit_layout};
 ghost use Rattle.clearing.specs.Choices.{taken};
 ghost use Rattle.clearing.specs.Filling.{BestFilled};
-ghost use Rattle.clearing.specs.Judging.{dates_within, worth_of};
+ghost use Rattle.clearing.specs.Judging.{dates_kept, worth_of};
 ghost use Rattle.clearing.specs.Kept.{PairsKept, ExclusionsKept, ZonesKept, DatesKept};
 ghost use Rattle.clearing.specs.Lawful.{view, Lawful, Worth, filled_sales, percentage};
 ghost use Rattle.clearing.specs.Tallies.{row};
-ghost use Rattle.clearing.specs.Ranges.{each, fits};
+ghost use Rattle.clearing.specs.Ranges.{fits};
 
 use crate::dockets::Docket;
 use crate::sales::{Sales, sell};
 use crate::tallies::{CERTIFICATES, ENERGY, Tally};
-use offers::marks::Sort;
-use offers::records::Limit;
+use offers::{Limit, Sort};
 
-// Whether each taken package that needs another has it among those that `within` has.
+/// Whether each taken package that needs another has it among those that `within` has.
 pub fn pairs_kept(docket: &Docket, taken: &Tally, within: &Tally) -> bool
-    ensures { Decides result (PairsKept docket.now.pairs.list.items taken.now.takes within.now.takes) }
+    ensures { IsTrue result ↔ (PairsKept docket.now.pairs.list.items taken.now.takes within.now.takes) }
 {
     docket.pairs.list.iter().all(|pair| {
         !taken.takes[pair.dependent as usize] || within.takes[pair.needed as usize]
     })
 }
 
-// Whether no two different taken packages are in one group. A loop, since each turn looks at what the turns before it saw.
+/// Whether no two different taken packages are in one group. A loop, since each turn looks at what the turns before it saw.
 pub fn exclusions_kept(docket: &Docket, taken: &Tally) -> bool
-    ensures { Decides result (ExclusionsKept docket.now.exclusions.list.items taken.now.takes) }
+    ensures { IsTrue result ↔ (ExclusionsKept docket.now.exclusions.list.items taken.now.takes) }
 {
     let mut first = [None; 16];
     for exclusion in docket.exclusions.list.iter() {
@@ -42,9 +42,9 @@ pub fn exclusions_kept(docket: &Docket, taken: &Tally) -> bool
     true
 }
 
-// Whether the taken packages without connection priority keep the limits of their zones.
+/// Whether the taken packages without connection priority keep the limits of their zones.
 pub fn zones_kept(docket: &Docket, taken: &Tally) -> bool
-    ensures { Decides result (ZonesKept docket.now.limits.list.items taken.now.nameplate taken.now.export) }
+    ensures { IsTrue result ↔ (ZonesKept docket.now.limits.list.items taken.now.nameplate taken.now.export) }
 {
     docket
         .limits
@@ -71,7 +71,7 @@ fn zone_load(limit: &Limit, taken: &Tally) -> u64
 // of each, or 100.
 fn percentages(docket: &Docket) -> [u64; 4]
     ensures value { result ≡ row (percentage docket.now.limits.list.items) 1 4 }
-    ensures bound { each (λ n. nat_le n 100) result ≡ true }
+    ensures bound { list_all (λ n. nat_le n 100) result ≡ true }
 {
     let mut least = [100u64; 4];
     for limit in docket.limits.list.iter() {
@@ -86,8 +86,8 @@ fn percentages(docket: &Docket) -> [u64; 4]
 // Whether what dated packages supply to a market is at most a percentage of what is sold there.
 fn share_kept(percent: u64, dated: &[u64; 5], sold: &[u64; 5], market: usize) -> bool
     requires percent { percent ≤ 100 }
-    requires dated { each (λ n. nat_le n 400000000) dated.now ≡ true }
-    requires sold { each (λ n. nat_le n 6400000000) sold.now ≡ true }
+    requires dated { list_all (λ n. nat_le n 400000000) dated.now ≡ true }
+    requires sold { list_all (λ n. nat_le n 6400000000) sold.now ≡ true }
     requires first { 1 ≤ market }
     requires last { market ≤ 5 }
     ensures { result ≡ nat_le (100 * slice_index dated.now (market - 1)) (percent * slice_index sold.now (market - 1)) }
@@ -97,10 +97,10 @@ fn share_kept(percent: u64, dated: &[u64; 5], sold: &[u64; 5], market: usize) ->
 
 // Whether dated packages keep their percentages, in each market of power and in that of certificates.
 fn dates_kept(docket: &Docket, taken: &Tally, sales: &Sales) -> bool
-    requires before { each (λ n. nat_le n 400000000) taken.now.before ≡ true }
-    requires after { each (λ n. nat_le n 400000000) taken.now.after ≡ true }
-    requires sold { each (λ n. nat_le n 6400000000) sales.now.sold ≡ true }
-    ensures { Decides result (DatesKept docket.now.limits.list.items taken.now sales.now.sold) }
+    requires before { list_all (λ n. nat_le n 400000000) taken.now.before ≡ true }
+    requires after { list_all (λ n. nat_le n 400000000) taken.now.after ≡ true }
+    requires sold { list_all (λ n. nat_le n 6400000000) sales.now.sold ≡ true }
+    ensures { IsTrue result ↔ (DatesKept docket.now.limits.list.items taken.now sales.now.sold) }
 {
     let least = percentages(docket);
     (1..ENERGY).all(|market| {
@@ -110,24 +110,24 @@ fn dates_kept(docket: &Docket, taken: &Tally, sales: &Sales) -> bool
         && share_kept(least[3], &taken.after, &sales.sold, CERTIFICATES)
 }
 
-// Whether what is dated of the packages that one choice takes keeps the percentages of what another choice's filled sales sell.
+/// Whether what is dated of the packages that one choice takes keeps the percentages of what another choice's filled sales sell.
 pub fn dates_stand(docket: &Docket, first: u64, last: u64) -> bool
-    ensures { result ≡ dates_within (view docket.now) (taken docket.now.packages.list.items first) (filled_sales (view docket.now) last) }
+    ensures { result ≡ dates_kept (view docket.now) (taken docket.now.packages.list.items first) (filled_sales (view docket.now) last) }
 {
-    let dated = Tally::of(docket, first);
-    let selling = Tally::of(docket, last);
+    let dated = Tally::new(docket, first);
+    let selling = Tally::new(docket, last);
     let sales = sell(docket, &selling.supply);
     dates_kept(docket, &dated, &sales)
 }
 
-// The surplus in pesos of a choice with filled sales, if it is lawful. One docket is asked about many choices, so the two stay two
-// parameters, here and below.
+/// The surplus in pesos of a choice with filled sales, if it is lawful. One docket is asked about many choices, so the two stay two
+/// parameters, here and below.
 pub fn worth(docket: &Docket, choice: u64) -> Option<i64>
     ensures value { result ≡ worth_of (view docket.now) choice }
     ensures worth { Worth (view docket.now) choice result }
     ensures best_filled { BestFilled (view docket.now) choice }
 {
-    let taken = Tally::of(docket, choice);
+    let taken = Tally::new(docket, choice);
     let sales = sell(docket, &taken.supply);
     if pairs_kept(docket, &taken, &taken)
         && exclusions_kept(docket, &taken)
@@ -140,9 +140,9 @@ pub fn worth(docket: &Docket, choice: u64) -> Option<i64>
     }
 }
 
-// Whether some sales make a choice lawful.
+/// Whether some sales make a choice lawful.
 pub fn is_lawful(docket: &Docket, choice: u64) -> bool
-    ensures { Decides result ((sales : List ℕ) × Lawful (view docket.now) choice sales) }
+    ensures { IsTrue result ↔ ((sales : List ℕ) × Lawful (view docket.now) choice sales) }
 {
     worth(docket, choice).is_some()
 }

@@ -1,10 +1,24 @@
-// What was open at a closing, and what a choice of its packages is worth.
+//! What was open at a closing, and what a choice of its packages is worth.
 #![tactic(auto)]
 
-pub mod bounded;
-pub mod choices;
-pub mod closing;
-pub mod dockets;
-pub mod lawful;
-pub mod sales;
-pub mod tallies;
+mod bounded;
+mod choices;
+mod closing;
+mod dockets;
+mod lawful;
+mod sales;
+mod tallies;
+
+/// The docket of a closing: what was open, each package with its price.
+pub use bounded::BoundedVec;
+pub use dockets::{Docket, OpenBand, PricedPackage};
+
+/// The packages that a choice takes, one after another, and what they come to together.
+pub use choices::Taken;
+pub use tallies::{CERTIFICATES, ENERGY, Tally, supply_of};
+
+/// What a supply sells to the open bands.
+pub use sales::{Sales, sale_at, sales_row, sell};
+
+/// Whether a choice keeps the rules, and what it is worth.
+pub use lawful::{dates_stand, exclusions_kept, is_lawful, pairs_kept, worth, zones_kept};

@@ -1,4 +1,4 @@
-// What a supply sells: the bands are filled by falling price, equal prices by rising number.
+//! What a supply sells: the bands are filled by falling price, equal prices by rising number.
 ghost use Rattle.std.specs.Prelude.{◌≡◌, true, map, slice_index};
 ghost use Rattle.clearing.specs.Ranges.{band_fits};
 ghost use Rattle.clearing.specs.Tallies.{row};
@@ -6,23 +6,23 @@ ghost use Rattle.clearing.specs.Sales.{filled, sale_of, sales_of};
 
 use crate::dockets::{Docket, OpenBand};
 
-// What is sold in each market, and what it brings in pesos. Market m stands at place m - 1, in an array as in `Tally`.
+/// What is sold in each market, and what it brings in pesos. Market m stands at place m - 1, in an array as in `Tally`.
 #[derive(Clone, Copy)]
 pub struct Sales {
     pub sold: [u64; 5],
     pub income: u64,
 }
 
-// What a band is sold: what is left once the bands ahead of it are served, up to its quantity.
+/// What a band is sold: what is left once the bands ahead of it are served, up to its quantity.
 pub(crate) fn sale(supply: &[u64; 5], band: &OpenBand) -> u64
     requires { band_fits band.now ≡ true }
     ensures { result ≡ filled supply.now band.now }
 {
-    let left = supply[band.record.market as usize - 1].saturating_sub(band.ahead);
-    left.min(band.record.quantity as u64)
+    let left = supply[band.terms.market as usize - 1].saturating_sub(band.ahead);
+    left.min(band.terms.quantity as u64)
 }
 
-// What the band at a place of the docket is sold, 0 past the last.
+/// What the band at a place of the docket is sold, 0 past the last.
 pub fn sale_at(docket: &Docket, supply: &[u64; 5], place: usize) -> u64
     ensures { result ≡ slice_index (map (filled supply.now) docket.now.bands.list.items) place }
 {
@@ -32,7 +32,7 @@ pub fn sale_at(docket: &Docket, supply: &[u64; 5], place: usize) -> u64
     }
 }
 
-// What a supply of each market sells to the docket's bands.
+/// What a supply of each market sells to the docket's bands.
 pub fn sell(docket: &Docket, supply: &[u64; 5]) -> Sales
     ensures { result ≡ sales_of docket.now.bands.list.items supply.now }
 {
@@ -42,13 +42,13 @@ pub fn sell(docket: &Docket, supply: &[u64; 5]) -> Sales
     };
     for band in docket.bands.list.iter() {
         let sold = sale(supply, band);
-        sales.sold[band.record.market as usize - 1] += sold;
-        sales.income += sold * band.record.price as u64;
+        sales.sold[band.terms.market as usize - 1] += sold;
+        sales.income += sold * band.terms.price as u64;
     }
     sales
 }
 
-// What each band is sold by its offer number, number n at place n - 1; 0 for a number that is not open.
+/// What each band is sold by its offer number, number n at place n - 1; 0 for a number that is not open.
 pub fn sales_row(docket: &Docket, supply: &[u64; 5]) -> [u64; 64]
     ensures { result ≡ row (sale_of docket.now.bands.list.items supply.now) 1 64 }
 {

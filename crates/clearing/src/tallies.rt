@@ -1,37 +1,38 @@
-// What the taken packages of a choice come to, in one pass over the docket.
+//! What the taken packages of a choice come to, in one pass over the docket.
+ghost use Rattle.std.specs.List.{list_all};
 ghost use Rattle.std.specs.Prelude.{◌≡◌, true, nat_le};
 ghost use Rattle.clearing.specs.Choices.{taken, supplied, supply};
-ghost use Rattle.clearing.specs.Ranges.{each, package_fits};
+ghost use Rattle.clearing.specs.Ranges.{package_fits};
 ghost use Rattle.clearing.specs.Tallies.{tally_of, Room, added, row, plus};
 
 use crate::dockets::{Docket, PricedPackage};
-use offers::marks::Date;
+use offers::Date;
 
-// Power in a zone is the market of that number, so markets stay numbers: each is its place in the rows below, counted from 1.
+/// Power in a zone is the market of that number, so markets stay numbers: each is its place in the rows below, counted from 1.
 pub const ENERGY: usize = 4;
 
 pub const CERTIFICATES: usize = 5;
 
-// The sums over the taken packages. Market m stands at place m - 1, zone z at place z - 1. The rules fix how many markets, zones
-// and numbers there are, and a step gets no memory, so rows are arrays; what takes one row is handed one, so they stand apart.
+/// The sums over the taken packages. Market m stands at place m - 1, zone z at place z - 1. The rules fix how many markets, zones
+/// and numbers there are, and a step gets no memory, so rows are arrays; what takes one row is handed one, so they stand apart.
 #[derive(Clone, Copy)]
 pub struct Tally {
-    // by offer number: is it taken?
+    /// by offer number: is it taken?
     pub takes: [bool; 41],
-    // MW, MWh or certificates by market: all, and those of packages dated before and after
+    /// MW, MWh or certificates by market: all, and those of packages dated before and after
     pub supply: [u64; 5],
     pub before: [u64; 5],
     pub after: [u64; 5],
-    // of unqualified packages: MW by interconnection zone, and MWh by export zone
+    /// of unqualified packages: MW by interconnection zone, and MWh by export zone
     pub nameplate: [u64; 16],
     pub export: [u64; 16],
-    // pesos
+    /// pesos
     pub cost: i64,
 }
 
 impl Tally {
-    // What a choice takes of a docket, together.
-    pub fn of(docket: &Docket, choice: u64) -> Tally
+    /// What a choice takes of a docket, together.
+    pub fn new(docket: &Docket, choice: u64) -> Tally
         ensures { result ≡ tally_of (taken docket.now.packages.list.items choice) }
     {
         let mut sums = Tally {
@@ -50,30 +51,30 @@ impl Tally {
     }
 
     // Counts one more package as taken.
-    fn add(&mut self, package: &PricedPackage)
+    fn add(&mut self, more: &PricedPackage)
         requires room { Room self.old }
-        requires fits { package_fits «package».now ≡ true }
-        ensures { self.new ≡ added self.old «package».now }
+        requires fits { package_fits more.now ≡ true }
+        ensures { self.new ≡ added self.old more.now }
     {
-        let record = package.record;
-        self.takes[package.number as usize] = true;
-        self.cost += package.price;
-        add_supply(&mut self.supply, package);
-        if record.is_dated(Date::Before) {
-            add_supply(&mut self.before, package);
+        let terms = more.terms;
+        self.takes[more.number as usize] = true;
+        self.cost += more.price;
+        add_supply(&mut self.supply, more);
+        if terms.is_dated(Date::Before) {
+            add_supply(&mut self.before, more);
         }
-        if record.is_dated(Date::After) {
-            add_supply(&mut self.after, package);
+        if terms.is_dated(Date::After) {
+            add_supply(&mut self.after, more);
         }
         // a mark is 0 or 1, and has no other case that a name would tell apart
-        if record.unqualified == 1 {
-            self.nameplate[record.interconnection_zone as usize - 1] += record.nameplate as u64;
-            self.export[record.export_zone as usize - 1] += record.energy as u64;
+        if terms.unqualified == 1 {
+            self.nameplate[terms.interconnection_zone as usize - 1] += terms.nameplate as u64;
+            self.export[terms.export_zone as usize - 1] += terms.energy as u64;
         }
     }
 }
 
-// What a choice's packages supply to each market, in one light pass for those who need no more of the sums.
+/// What a choice's packages supply to each market, in one light pass for those who need no more of the sums.
 pub fn supply_of(docket: &Docket, choice: u64) -> [u64; 5]
     ensures { result ≡ row (λ m. supply m (taken docket.now.packages.list.items choice)) 1 5 }
 {
@@ -85,13 +86,13 @@ pub fn supply_of(docket: &Docket, choice: u64) -> [u64; 5]
 }
 
 // Adds what a package supplies to each market.
-fn add_supply(supply: &mut [u64; 5], package: &PricedPackage)
-    requires room { each (λ n. nat_le n 390000000) supply.old ≡ true }
-    requires fits { package_fits «package».now ≡ true }
-    ensures { supply.new ≡ plus supply.old (row (λ m. supplied m «package».now.«record») 1 5) }
+fn add_supply(supply: &mut [u64; 5], more: &PricedPackage)
+    requires room { list_all (λ n. nat_le n 390000000) supply.old ≡ true }
+    requires fits { package_fits more.now ≡ true }
+    ensures { supply.new ≡ plus supply.old (row (λ m. supplied m more.now.terms) 1 5) }
 {
-    let record = package.record;
-    supply[record.power_zone as usize - 1] += record.power as u64;
-    supply[ENERGY - 1] += record.energy as u64;
-    supply[CERTIFICATES - 1] += record.certificates as u64;
+    let terms = more.terms;
+    supply[terms.power_zone as usize - 1] += terms.power as u64;
+    supply[ENERGY - 1] += terms.energy as u64;
+    supply[CERTIFICATES - 1] += terms.certificates as u64;
 }

@@ -1,6 +1,6 @@
 -- The worked rounds of docs/RULES.md. Assumes nothing.
-use Rattle.std.specs.Prelude.{◌≡◌, ℕ, ◌-◌, List, [], ◌∷◌, ◌++◌, replicate, Ok, Err, Result, ℤ, pos, negsuc}
-use Rattle.offers.specs.declared.memory.Kind.TheVariants as kind
+use Rattle.std.specs.Prelude.{◌≡◌, ℕ, ◌-◌, List, [], ◌∷◌, ◌++◌, replicate, Ok, Err, Result, ℤ, pos, neg_ℤ}
+use Rattle.offers.specs.declared.kinds.Kind.TheVariants as kind
 use Rattle.offers.specs.declared.memory.Offer.TheVariants as offer
 use Rattle.offers.specs.declared.records.Package.{Package}
 use Rattle.offers.specs.declared.refusals.Code.TheVariants.{Clash}
@@ -33,7 +33,7 @@ pub record Takes (rule : Answers) (steps settled : ℕ) : Type 0 where
 
 -- a package's price in the round's own stack, with a preference of 10,100, an expectation of 10,000, and -3 in zone 1
 abbrev pub own_price : Package → Result ℤ Fault
-own_price = stack_price 10100 10000 (negsuc 2 ∷ replicate 15 (pos 0))
+own_price = stack_price 10100 10000 (neg_ℤ (pos 3) ∷ replicate 15 (pos 0))
 
 -- package 2 of the two-package round filed and withdrawn, and then a sheet
 abbrev pub withdrawn_then : List ℕ → List Call
@@ -128,7 +128,7 @@ pub record TwelveRounds : Type 0 where
     sales = 50 ∷ 40 ∷ 150000 ∷ 90000 ∷ 150000 ∷ 90000 ∷ [];
   })
   -- round 10, a price in the round's own stack: -30.3 rounded up
-  pub own_price_below_zero : own_price (in_dollars (ten_for 0)) ≡ Ok (negsuc 29)
+  pub own_price_below_zero : own_price (in_dollars (ten_for 0)) ≡ Ok (neg_ℤ (pos 30))
   -- and 70.7
   pub own_price_above_zero : own_price (in_dollars (ten_for 100)) ≡ Ok (pos 71)
   -- round 11, a withdrawal outlives an older sheet

@@ -1,23 +1,12 @@
-// Awards of other rounds than the worked ones: each rule of lawfulness that those leave out, and other bounding rules.
+//! Awards of other rounds than the worked ones: each rule of lawfulness that those leave out, and other bounding rules.
 use crate::fixtures::{
     Told, band, check_answers, check_award, excluded, filing, four_packages, limit, needs, package,
     row, six_bands, unqualified,
 };
-use bounds::all_in::AllIn;
-use bounds::blocks::BoundingRule;
-use bounds::ceiling::Ceiling;
-use bounds::joined::Joined;
-use bounds::limits::Limits;
-use bounds::one_by_one::OneByOne;
-use bounds::shares::Shares;
-use bounds::tangent::Tangent;
-use offers::memory::{Kind, Offer};
-use offers::records::Package;
-use pricing::filed::Filed;
-use pricing::numbers::ZoneNumbers;
-use pricing::place::Place;
-use rounds::requests::Request;
-use rounds::rules::OneOf;
+use bounds::{AllIn, BoundingRule, Ceiling, Joined, Limits, OneByOne, Shares, Tangent};
+use offers::{Kind, Offer, Package};
+use pricing::{Filed, Place, ZoneNumbers};
+use rounds::{OneOf, Request};
 use std::process::Abort;
 use std::test::*;
 

@@ -1,9 +1,6 @@
-// Each refusal of filing and withdrawing, with all its values, and what a refused call leaves.
+//! Each refusal of filing and withdrawing, with all its values, and what a refused call leaves.
 use crate::fixtures::refusal;
-use offers::memory::{Kind, Offer, Offers};
-use offers::records::{Band, Exclusion, Limit, Pair};
-use offers::refusals::Code;
-use offers::registers::{Entry, Register};
+use offers::{Band, Code, Entry, Exclusion, Kind, Limit, Offer, Offers, Pair, Register};
 use std::test::*;
 
 const PAIR: Pair = Pair {

@@ -1,34 +1,24 @@
-// What tests are written with: the offers of the worked rounds, requests to a round, and what they are answered.
-use bounds::all_in::AllIn;
-use bounds::blocks::BoundingRule;
-use bounds::joined::Joined;
-use bounds::limits::Limits;
-use offers::memory::Offer;
-use offers::records::{Band, Exclusion, Limit, Package, Pair};
-use offers::refusals::{Code, Refusal};
-use pricing::currency::Currency;
-use pricing::filed::Filed;
-use pricing::numbers::{Rates, ZoneNumbers};
-use pricing::place::Place;
-use pricing::rules::PriceRule;
-use rounds::replays::{Moment, Run, replay};
-use rounds::requests::{Reply, Request};
+//! What tests are written with: the offers of the worked rounds, requests to a round, and what they are answered.
+use bounds::{AllIn, BoundingRule, Joined, Limits};
+use offers::{Band, Code, Exclusion, Limit, Offer, Package, Pair, Refusal};
+use pricing::{Currency, Filed, Place, PriceRule, Rates, ZoneNumbers};
+use rounds::{Moment, Reply, Request, Run, replay};
 use std::alloc::{AllocError, Global};
 use std::process::Abort;
 use std::test::*;
 
-// A refusal of any call but a closing, which alone tells of a price rule's depth. `sheets` has the same, but for itself only.
+/// A refusal of any call but a closing, which alone tells of a price rule's depth. `sheets` has the same, but for itself only.
 pub fn refusal(code: Code, tag: u8, number: u8, field: u8, byte: usize) -> Refusal {
     Refusal {
         tag,
         number,
         field,
         byte,
-        ..Refusal::of(code)
+        ..Refusal::code_only(code)
     }
 }
 
-// A package of which each field has its least value.
+/// A package of which each field has its least value.
 pub const LEAST: Package = Package {
     power: 0,
     energy: 0,
@@ -44,7 +34,7 @@ pub const LEAST: Package = Package {
     dollar: 0,
 };
 
-// A package with all zones 1 and all other fields 0.
+/// A package with all zones 1 and all other fields 0.
 pub fn package(power: u32, energy: u32, certificates: u32, price: u64) -> Package {
     Package {
         power,
@@ -55,7 +45,7 @@ pub fn package(power: u32, energy: u32, certificates: u32, price: u64) -> Packag
     }
 }
 
-// Without connection priority, and with a nameplate equal to its power.
+/// Without connection priority, and with a nameplate equal to its power.
 pub fn unqualified(package: Package) -> Package {
     Package {
         nameplate: package.power,
@@ -76,7 +66,7 @@ pub fn needs(dependent: u8, needed: u8) -> Offer {
     Offer::Pair(Pair { dependent, needed })
 }
 
-// A member of the first group.
+/// A member of the first group.
 pub fn excluded(member: u8) -> Offer {
     Offer::Exclusion(Exclusion { group: 1, member })
 }
@@ -85,7 +75,7 @@ pub fn limit(sort: u8, zone: u8, amount: u32) -> Offer {
     Offer::Limit(Limit { sort, zone, amount })
 }
 
-// The packages of the four-package round.
+/// The packages of the four-package round.
 pub fn four_packages() -> [Package; 4] {
     [
         package(30, 120_000, 120_000, 120_000_000),
@@ -95,7 +85,7 @@ pub fn four_packages() -> [Package; 4] {
     ]
 }
 
-// Its bands: two for power in zone 1, two for energy and two for certificates.
+/// Its bands: two for power in zone 1, two for energy and two for certificates.
 pub fn six_bands() -> [Offer; 6] {
     [
         band(1, 50, 1_300_000),
@@ -107,7 +97,7 @@ pub fn six_bands() -> [Offer; 6] {
     ]
 }
 
-// The sheet of the two-package round.
+/// The sheet of the two-package round.
 pub const TWO_PACKAGES: &[u8; 86] =
     b"\x01\x00\x21\x01\x01\x00\x00\x00\x00\x00\x00\x00\x0a\x00\x00\x00\x00\x00\x00\x00\x00\
     \x00\x00\x00\x00\x00\x00\x00\x14\x01\x01\x01\x01\x00\x00\x00\
@@ -115,7 +105,7 @@ pub const TWO_PACKAGES: &[u8; 86] =
     \x00\x00\x00\x00\x00\x00\x00\x14\x01\x01\x01\x01\x00\x00\x00\
     \x02\x00\x0b\x01\x01\x04\x00\x00\x00\x0a\x00\x00\x00\x05";
 
-// Currency on place on filed, with one number for price zone 1 and 0 for the others.
+/// Currency on place on filed, with one number for price zone 1 and 0 for the others.
 pub fn stack(
     number: i64,
     preference: u32,
@@ -132,12 +122,12 @@ pub fn stack(
     })
 }
 
-// What most rounds are asked: they are closed as filed, and searched under limits and all-in joined.
+/// What most rounds are asked: they are closed as filed, and searched under limits and all-in joined.
 pub type UsualRequest = Request<Filed, Joined<Limits, AllIn>>;
 
 pub const LIMITS_AND_ALL_IN: Joined<Limits, AllIn> = Joined(Limits, AllIn);
 
-// Files packages, bands and other offers, each from number 1 on.
+/// Files packages, bands and other offers, each from number 1 on.
 pub fn filing<P: Drop, B: Drop>(
     heap: Global,
     packages: &[Package],
@@ -154,21 +144,21 @@ pub fn filing<P: Drop, B: Drop>(
     Ok(requests)
 }
 
-// A row for an award, of so many places that each hold a 7.
+/// A row for an award, of so many places that each hold a 7.
 pub fn row(heap: Global, places: usize) -> Result<Vec<u64>, AllocError> {
     Ok(vec![in heap; 7u64; places]?)
 }
 
-// What a request is answered, without its row or buffer.
+/// What a request is answered, without its row or buffer.
 #[derive(Clone, Copy, PartialEq, Eq, Debug)]
 pub enum Told {
     Done,
-    // choices settled, and the leader's surplus
+    /// choices settled, and the leader's surplus
     Found(u64, i64),
     Reopened,
-    // the choice, and its surplus
+    /// the choice, and its surplus
     Awarded(u64, i64),
-    // the sheet's length
+    /// the sheet's length
     Written(usize),
     Refused(Refusal),
     NotTaken,
@@ -191,7 +181,7 @@ impl Told {
     }
 }
 
-// The run of these requests, of which the last are answered so and each before them is done.
+/// The run of these requests, of which the last are answered so and each before them is done.
 pub fn check_run<R: Abort + AllocGlobal, P: PriceRule + Drop, B: BoundingRule + Drop>(
     rt: &R,
     requests: Vec<Request<P, B>>,
@@ -210,7 +200,7 @@ pub fn check_run<R: Abort + AllocGlobal, P: PriceRule + Drop, B: BoundingRule + 
     Ok(run)
 }
 
-// The same of a run of which nothing else is looked at.
+/// The same of a run of which nothing else is looked at.
 pub fn check_answers<R: Abort + AllocGlobal, P: PriceRule + Drop, B: BoundingRule + Drop>(
     rt: &R,
     requests: Vec<Request<P, B>>,
@@ -220,8 +210,8 @@ pub fn check_answers<R: Abort + AllocGlobal, P: PriceRule + Drop, B: BoundingRul
     Ok(())
 }
 
-// The same of one that reads its award last: the row then has these sales from band 1 on, 0 up to place 64, and then what
-// it was lent with.
+/// The same of one that reads its award last: the row then has these sales from band 1 on, 0 up to place 64, and then what
+/// it was lent with.
 pub fn check_sold<R: Abort + AllocGlobal, P: PriceRule + Drop, B: BoundingRule + Drop>(
     rt: &R,
     requests: Vec<Request<P, B>>,
@@ -250,8 +240,8 @@ fn check_row(rt: &impl Abort, run: &Run, sales: &[u64]) -> Result<(), Fail> {
     Ok(())
 }
 
-// A round that is asked this, closed as filed and searched to its end under limits and all-in joined comes to so many
-// choices, the choice that is awarded, its surplus in pesos, and what the bands are sold.
+/// A round that is asked this, closed as filed and searched to its end under limits and all-in joined comes to so many
+/// choices, the choice that is awarded, its surplus in pesos, and what the bands are sold.
 pub fn check_award<R: Abort + AllocGlobal>(
     rt: &R,
     mut requests: Vec<UsualRequest>,

@@ -1,13 +1,8 @@
-// What choices of the four-package round are worth, and each rule of lawfulness just kept and just broken.
+//! What choices of the four-package round are worth, and each rule of lawfulness just kept and just broken.
 use crate::fixtures::{excluded, four_packages, limit, needs, package, refusal, six_bands};
-use clearing::dockets::Docket;
-use clearing::lawful::{is_lawful, worth};
-use offers::memory::{Offer, Offers};
-use offers::records::Package;
-use offers::refusals::{Code, Refusal};
-use pricing::filed::Filed;
-use pricing::numbers::ZoneNumbers;
-use pricing::place::Place;
+use clearing::{Docket, is_lawful, worth};
+use offers::{Code, Offer, Offers, Package, Refusal};
+use pricing::{Filed, Place, ZoneNumbers};
 use std::process::Abort;
 use std::test::*;
 

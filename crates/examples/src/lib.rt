@@ -1,4 +1,4 @@
-// What a round accepts, refuses, prices and awards, shown by examples.
+//! What a round accepts, refuses, prices and awards, shown by examples.
 #![tactic(auto)]
 
 ghost use Rattle.std.specs.Prelude.{◌≡◌};
@@ -26,19 +26,16 @@ mod texts;
 #[cfg(test)]
 mod worked_rounds;
 
-use offers::records::Package;
-use pricing::currency::Currency;
-use pricing::filed::Filed;
-use pricing::place::Place;
-use pricing::rules::PriceRule;
+use offers::Package;
+use pricing::{Currency, Filed, Place, PriceRule};
 
-// The definitions come to what the worked rounds say. This is its proof.
+/// The definitions come to what the worked rounds say. This is its proof.
 pub fn twelve_rounds()
     ensures { TwelveRounds }
 {}
 
-// Currency on place on filed means the price of the round's own stack, by the numbers that its rules hold. So the tenth
-// worked round is about these rules.
+/// Currency on place on filed means the price of the round's own stack, by the numbers that its rules hold. So the tenth
+/// worked round is about these rules.
 pub fn stack_means(stack: &Currency<Place<Filed>>)
     ensures { (p : Package) → ⟦<Currency<Place<Filed>> as PriceRule>⟧.meaning stack.now p
         ≡ stack_price stack.now.rates.preference stack.now.rates.expectation stack.now.below.numbers.numbers p }

@@ -1,8 +1,7 @@
-// Prices by the filed, the place and the currency rule, and their faults.
+//! Prices by the filed, the place and the currency rule, and their faults.
 use crate::fixtures::{package, refusal, stack};
-use offers::records::Package;
-use offers::refusals::Code;
-use pricing::rules::{Fault, PriceRule};
+use offers::{Code, Package};
+use pricing::{Fault, PriceRule};
 use std::test::*;
 
 // A package of this energy and filed price, in dollars.

@@ -1,6 +1,6 @@
-// The fields of each kind at both ends of their ranges, and one past them.
+//! The fields of each kind at both ends of their ranges, and one past them.
 use crate::fixtures::LEAST;
-use offers::records::{Band, Exclusion, Limit, Package, Pair, Record};
+use offers::{Band, Exclusion, Limit, Package, Pair, Record};
 use std::process::Abort;
 use std::test::*;
 

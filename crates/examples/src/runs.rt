@@ -1,15 +1,12 @@
-// Runs of calls: what each state takes, what a refused call leaves, and rounds that are closed more than once.
+//! Runs of calls: what each state takes, what a refused call leaves, and rounds that are closed more than once.
 use crate::fixtures::{
     LIMITS_AND_ALL_IN, TWO_PACKAGES, Told, UsualRequest, band, check_answers, check_run,
     check_sold, filing, four_packages, package, refusal, row, six_bands, stack,
 };
-use bounds::ceiling::Ceiling;
-use offers::memory::{Kind, Offer};
-use offers::records::Package;
-use offers::refusals::{Code, Refusal};
-use pricing::filed::Filed;
-use rounds::replays::Run;
-use rounds::requests::{Reply, Request, Round};
+use bounds::Ceiling;
+use offers::{Code, Kind, Offer, Package, Refusal};
+use pricing::Filed;
+use rounds::{Reply, Request, Round, Run};
 use std::alloc::{AllocError, Global};
 use std::process::Abort;
 use std::test::*;

@@ -1,11 +1,7 @@
-// Sheets: every offence at several places, their order, the fullest sheet, and how a withdrawal travels.
+//! Sheets: every offence at several places, their order, the fullest sheet, and how a withdrawal travels.
 use crate::fixtures::{LEAST, refusal};
-use offers::memory::{Kind, Offer, Offers};
-use offers::records::{Band, Exclusion, Limit, Package, Pair};
-use offers::refusals::{Code, Refusal};
-use offers::registers::Entry;
-use sheets::reading::catch_up;
-use sheets::writing::write_sheet;
+use offers::{Band, Code, Entry, Exclusion, Kind, Limit, Offer, Offers, Package, Pair, Refusal};
+use sheets::{catch_up, write_sheet};
 use std::process::Abort;
 use std::test::*;
 

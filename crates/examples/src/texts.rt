@@ -1,14 +1,11 @@
-// What is printed of an award and of a refused sheet.
+//! What is printed of an award and of a refused sheet.
 use crate::fixtures::{
     LIMITS_AND_ALL_IN, TWO_PACKAGES, UsualRequest, filing, four_packages, refusal, six_bands,
 };
-use offers::refusals::Code;
-use pricing::filed::Filed;
-use reports::report::{RefusedSheet, Report};
-use rounds::finishing::{Progress, finish};
-use rounds::open_round::OpenRound;
-use rounds::replays::replay;
-use rounds::requests::{Request, Round};
+use offers::Code;
+use pricing::Filed;
+use reports::{RefusedSheet, Report};
+use rounds::{OpenRound, Progress, Request, Round, finish, replay};
 use std::alloc::Global;
 use std::process::Abort;
 use std::test::*;
@@ -29,7 +26,7 @@ fn check_text<R: Abort + AllocGlobal>(
 // The report of a round that is awarded.
 fn report_of(heap: Global, round: &Round) -> Result<Report, Fail> {
     match round {
-        Round::Awarded(awarded) => Ok(Report::of(heap, awarded)?),
+        Round::Awarded(awarded) => Ok(Report::new(heap, awarded)?),
         _ => Err(Fail::new("not awarded")),
     }
 }
@@ -70,7 +67,7 @@ fn two_packages_and_a_band(rt: HostRuntime) -> Result<(), Fail> {
     let mut last = Last(0, 0, 0);
     let awarded = finish(closed, &mut LIMITS_AND_ALL_IN, &mut last);
     assert_eq!(rt; (last.0, last.1, last.2), (4, 4, 30));
-    let text = Report::of(heap, &awarded)?.to_string(heap)?;
+    let text = Report::new(heap, &awarded)?.to_string(heap)?;
     let lines = "open 2 choices 4\npackage 1\nband 1 sold 10\nsurplus 30\n";
     assert_eq!(rt; text.as_str(), lines);
     Ok(())

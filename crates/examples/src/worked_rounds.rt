@@ -1,18 +1,13 @@
-// The worked rounds, one test each, as calls on a round.
+//! The worked rounds, one test each, as calls on a round.
 use crate::fixtures::{
     TWO_PACKAGES, Told, UsualRequest, band, check_answers, check_award, check_run, check_sold,
     excluded, filing, four_packages, limit, needs, package, refusal, row, six_bands, stack,
     unqualified,
 };
-use bounds::all_in::AllIn;
-use bounds::blocks::BoundingRule;
-use bounds::ceiling::Ceiling;
-use offers::memory::{Kind, Offer};
-use offers::records::{Band, Package};
-use offers::refusals::Code;
-use offers::registers::Entry;
-use pricing::filed::Filed;
-use rounds::requests::Request;
+use bounds::{AllIn, BoundingRule, Ceiling};
+use offers::{Band, Code, Entry, Kind, Offer, Package};
+use pricing::Filed;
+use rounds::Request;
 use std::alloc::{AllocError, Global};
 use std::process::Abort;
 use std::test::*;

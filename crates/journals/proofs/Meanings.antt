@@ -3,8 +3,7 @@ use Rattle.std.proofs.Common.{map, vec_items}
 use Rattle.pricing.specs.declared.currency.Currency.{Currency}
 use Rattle.pricing.specs.declared.filed.Filed.{Filed}
 use Rattle.pricing.specs.declared.place.Place.{Place}
-use Rattle.pricing.specs.Prices.{filed_price, place_price, currency_price}
-use Rattle.clearing.specs.Closing.{Meaning}
+use Rattle.pricing.specs.Prices.{filed_price, place_price, currency_price, Meaning}
 use Rattle.bounds.specs.declared.chains.Chain.{Chain}
 use Rattle.bounds.specs.declared.names.Named.{Named}
 use Rattle.bounds.specs.Blocks.{Answers}

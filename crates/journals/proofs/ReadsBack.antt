@@ -5,8 +5,8 @@ use Rattle.std.specs.List.{filter, list_all, AllByRecursion}
 use Rattle.std.specs.Str.Lines.{strip_carriage_return}
 use Rattle.std.proofs.lemmas.Bool.{and_parts, and_from, cond-true, cond-false, ltb-true, leb-true, le-leb, ne_eqb, or_from}
 use Rattle.std.proofs.lemmas.List.Folds.{list_all-append}
-use Rattle.offers.specs.declared.memory.Kind.{Kind}
-use Rattle.offers.specs.declared.memory.Kind.TheVariants as kind
+use Rattle.offers.specs.declared.kinds.Kind.{Kind}
+use Rattle.offers.specs.declared.kinds.Kind.TheVariants as kind
 use Rattle.journals.specs.declared.wrongs.Wrong.TheVariants.{UnknownKind}
 use Rattle.journals.specs.Journals.{journal_from}
 use Rattle.journals.specs.Laws.{LinesReadBack, JournalsReadBack}

@@ -6,7 +6,7 @@ use Rattle.hex.specs.Hex.{encode_lower}
 use Rattle.offers.specs.declared.refusals.Refusal.{Refusal}
 use Rattle.offers.specs.Refusals.{code_number}
 use Rattle.rounds.specs.declared.awarded_round.Award.{Award}
-use Rattle.rounds.specs.Model.{Answer, Done, Found, Reopened, Awarded, Written, NotTaken, Stage, AtOpen, AtClosed, AtAwarded}
+use Rattle.rounds.specs.Model.{Answer, Done, Found, Reopened, Awarded, Written, NotTaken, PlainStage, AtOpen, AtClosed, AtAwarded}
 use Rattle.journals.specs.declared.lines.Shown.{Shown}
 use Rattle.journals.specs.declared.lines.Shown.TheVariants.{Whole, Written as OnlyWritten}
 
@@ -25,8 +25,8 @@ abbrev pub place_text : ℕ → List ℕ
 place_text quantity = 32 ∷ decimal quantity
 
 -- the choice, its surplus in pesos, and every place of the row
-abbrev pub award_text : Award → List ℕ → List ℕ
-award_text award row =
+abbrev pub awarded_text : Award → List ℕ → List ℕ
+awarded_text award row =
     codes "choice " ++ (decimal award.choice ++ (codes " surplus " ++ (signed_decimal award.surplus ++ (codes " sold" ++ flat_map place_text row))))
 
 -- bytes behind a number, two digits each; nothing where there are none
@@ -43,19 +43,19 @@ shown_bytes OnlyWritten length buffer = take length buffer
 abbrev pub sheet_text : ℕ → List ℕ → List ℕ
 sheet_text length bytes = codes "sheet " ++ (decimal length ++ bytes_text bytes)
 
-abbrev pub stage_word : Stage → List ℕ
+abbrev pub stage_word : PlainStage → List ℕ
 stage_word AtOpen = codes "open"
 stage_word (AtClosed at) = codes "closed"
 stage_word (AtAwarded at) = codes "awarded"
 
 -- what a call was answered, where the round stands after it
-abbrev pub answer_text : Shown → Stage → Answer → List ℕ
+abbrev pub answer_text : Shown → PlainStage → Answer → List ℕ
 answer_text shown stage (Done (Ok done)) = codes "done"
 answer_text shown stage (Done (Err refusal)) = refusal_text refusal
 answer_text shown stage (Found (Ok found)) = found_text found.0 found.1
 answer_text shown stage (Found (Err refusal)) = refusal_text refusal
 answer_text shown stage Reopened = codes "done"
-answer_text shown stage (Awarded (Ok award) row) = award_text award row
+answer_text shown stage (Awarded (Ok award) row) = awarded_text award row
 answer_text shown stage (Awarded (Err refusal) row) = refusal_text refusal
 answer_text shown stage (Written (Ok length) buffer) = sheet_text length (shown_bytes shown length buffer)
 answer_text shown stage (Written (Err refusal) buffer) = refusal_text refusal

@@ -1,7 +1,6 @@
 -- The calls that lines stand for, and what is shown of their buffers. Assumes nothing.
 use Rattle.std.specs.Prelude.{ℕ, ◌+◌, ◌*◌, map, replicate, Some, None, Option}
-use Rattle.pricing.specs.Prices.{filed_price, place_price, currency_price}
-use Rattle.clearing.specs.Closing.{Meaning}
+use Rattle.pricing.specs.Prices.{filed_price, place_price, currency_price, Meaning}
 use Rattle.bounds.specs.Blocks.{Answers}
 use Rattle.bounds.specs.Rules.{chained, named}
 use Rattle.rounds.specs.Model as model

@@ -3,7 +3,7 @@ use Rattle.std.specs.Prelude.{◌≡◌, List, length, replicate, Some, Ok}
 use Rattle.std.specs.List.{AllByRecursion as Every}
 use Rattle.offers.specs.Memory.{Entries, Sound}
 use Rattle.sheets.specs.Writing.{sheet_of}
-use Rattle.rounds.specs.Model.{Stage, written}
+use Rattle.rounds.specs.Model.{PlainStage, written}
 use Rattle.journals.specs.declared.lines.Shown.TheVariants.{Whole, Written}
 use Rattle.journals.specs.Answers.{answer_text}
 use Rattle.journals.specs.Calls.{fullest}
@@ -21,5 +21,5 @@ JournalsReadBack = (lines : List Said) → Every Fits lines → journal_in (jour
 
 -- a line that asks for a sheet and says no length is answered as if it had lent a buffer just as long as the sheet
 abbrev pub SheetsShown : Type 0
-SheetsShown = (all : Entries) (stage : Stage) → Sound all →
+SheetsShown = (all : Entries) (stage : PlainStage) → Sound all →
     answer_text Written stage (written all (replicate fullest 0)) ≡ answer_text Whole stage (written all (replicate (length (sheet_of all)) 0))

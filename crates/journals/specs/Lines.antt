@@ -1,6 +1,6 @@
 -- What a line says. Assumes nothing.
-use Rattle.std.specs.Prelude.{ℕ, cond, List, [], ◌∷◌, vec_items, slice_index, ◌==◌, unwrap_or, Some, None, Option, Ok, Result}
-use Rattle.offers.specs.declared.memory.Kind.{Kind}
+use Rattle.std.specs.Prelude.{ℕ, List, [], ◌∷◌, vec_items, slice_index, ◌==◌, unwrap_or, Some, None, Option, Ok, Result, if◌then◌else◌}
+use Rattle.offers.specs.declared.kinds.Kind.{Kind}
 use Rattle.offers.specs.declared.memory.Offer.{Offer}
 use Rattle.journals.specs.declared.lines.Line.{Line}
 use Rattle.journals.specs.declared.lines.Line.TheVariants as line
@@ -83,4 +83,4 @@ said_by (word ∷ words) = do
 
 -- what a line says; one that begins with a byte 35 is passed over
 abbrev pub said_in : List ℕ → Result (Option Said) Wrong
-said_in line = cond (slice_index line 0 == 35) (Ok None) (said_by (words_in line))
+said_in line = if slice_index line 0 == 35 then Ok None else said_by (words_in line)

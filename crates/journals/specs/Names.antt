@@ -1,8 +1,8 @@
 -- The words that stand for calls, kinds of record, price rules and bounding rules. Assumes nothing.
-use Rattle.std.specs.Prelude.{ℕ, cond, List, [], ◌∷◌, codes, Some, None, Option}
+use Rattle.std.specs.Prelude.{ℕ, List, [], ◌∷◌, codes, Some, None, Option, if◌then◌else◌}
 use Rattle.std.specs.Str.{bytes_eq}
-use Rattle.offers.specs.declared.memory.Kind.{Kind}
-use Rattle.offers.specs.declared.memory.Kind.TheVariants as kind
+use Rattle.offers.specs.declared.kinds.Kind.{Kind}
+use Rattle.offers.specs.declared.kinds.Kind.TheVariants as kind
 use Rattle.journals.specs.declared.names.Verb.{Verb}
 use Rattle.journals.specs.declared.names.Verb.TheVariants as verb
 use Rattle.journals.specs.declared.names.Top.{Top}
@@ -18,7 +18,7 @@ pub record Name (C : Type 0) : Type 0 where
 -- what a word stands for, by a table of names
 abbrev pub case_named : {C : Type 0} → List (Name C) → List ℕ → Option C
 case_named [] word = None
-case_named (name ∷ names) word = cond (bytes_eq word name.word) (Some name.case) (case_named names word)
+case_named (name ∷ names) word = if bytes_eq word name.word then Some name.case else case_named names word
 
 -- the calls
 abbrev pub verbs : List (Name Verb)

@@ -1,5 +1,5 @@
 -- Words as numbers. Assumes nothing.
-use Rattle.std.specs.Prelude.{ℕ, ◌+◌, ◌-◌, ◌*◌, ◌^◌, Bool, not, ◌&&◌, cond, nat_lt, ◌==◌, List, [], ◌∷◌, length, ℤ, pos, neg_ℤ, Some, None, Option, Ok, Err, Result}
+use Rattle.std.specs.Prelude.{ℕ, ◌+◌, ◌-◌, ◌*◌, ◌^◌, Bool, not, ◌&&◌, nat_lt, ◌==◌, List, [], ◌∷◌, length, ℤ, pos, neg_ℤ, Some, None, Option, Ok, Err, Result, if◌then◌else◌}
 use Rattle.std.specs.Char.{is_ascii_digit}
 use Rattle.std.specs.List.{list_all}
 use Rattle.journals.specs.declared.wrongs.Wrong.{Wrong}
@@ -17,16 +17,16 @@ value_on n (c ∷ cs) = value_on (10 * n + (c - 48)) cs
 
 -- the number that a word is
 abbrev pub number_in : List ℕ → Option ℕ
-number_in word = cond (is_number word) (Some (value_on 0 word)) None
+number_in word = if is_number word then Some (value_on 0 word) else None
 
 -- a number that so many bytes hold
 abbrev pub sized : ℕ → Option ℕ → Result ℕ Wrong
 sized width None = Err NotANumber
-sized width (Some n) = cond (nat_lt n (256 ^ width)) (Ok n) (Err TooLarge)
+sized width (Some n) = if nat_lt n (256 ^ width) then Ok n else Err TooLarge
 
 -- a signed number: a number that four bytes hold, or one with a minus before it
 abbrev pub signed_in : List ℕ → Result ℤ Wrong
 signed_in [] = Err NotANumber
-signed_in (c ∷ cs) = cond (c == 45)
-    (sized 4 (number_in cs) >>= λ n. Ok (neg_ℤ (pos n)))
-    (sized 4 (number_in (c ∷ cs)) >>= λ n. Ok (pos n))
+signed_in (c ∷ cs) = if c == 45
+    then sized 4 (number_in cs) >>= λ n. Ok (neg_ℤ (pos n))
+    else sized 4 (number_in (c ∷ cs)) >>= λ n. Ok (pos n)

@@ -15,12 +15,12 @@ abbrev pub Reading : Type 0 → Type 0
 Reading X = Result (X × List (List ℕ)) Wrong
 
 -- the words that are left
-abbrev pub left : Words → List (List ℕ)
-left words = words_in words.rest.now
+abbrev pub unread : Words → List (List ℕ)
+unread words = words_in words.rest.now
 
 -- what a function answered, seen by view, and the words that it left are what the definition says
 abbrev pub Gives : {X Y : Type 0} → (X → Y) → Result X Wrong → Words → Reading Y → Type 0
-Gives view (Ok x) words reading = reading ≡ Ok (view x, left words)
+Gives view (Ok x) words reading = reading ≡ Ok (view x, unread words)
 Gives view (Err wrong) words reading = reading ≡ Err wrong
 
 -- what a function that may run out of memory answered, seen by view, is what the definition says

@@ -1,7 +1,7 @@
 -- What a run of a journal writes. Assumes nothing.
 use Rattle.std.specs.Prelude.{◌≡◌, ℕ, Bool, true, false, List, [], ◌∷◌, ◌++◌, map, zip, flat_map, Ok, Err, Result, Option, IfSome}
 use Rattle.std.specs.Io.KnownBytes.{Appends}
-use Rattle.rounds.specs.Model.{Moment, beginning, moments_from}
+use Rattle.rounds.specs.Model.{PlainMoment, open_and_vacant, moments_from}
 use Rattle.rounds.specs.Promises.{Promised}
 use Rattle.journals.specs.declared.journals.Mistake.{Mistake}
 use Rattle.journals.specs.declared.lines.Shown.{Shown}
@@ -15,24 +15,24 @@ abbrev pub line_end : List ℕ
 line_end = 10 ∷ []
 
 -- a moment as a line: its answer, what is shown of its buffer, and where the round stands after it
-abbrev pub answer_line : Shown × Moment → List ℕ
+abbrev pub answer_line : Shown × PlainMoment → List ℕ
 answer_line told = answer_text told.0 told.1.stage told.1.answer ++ line_end
 
 -- a line for each moment
-abbrev pub transcript_of : List Shown → List Moment → List ℕ
+abbrev pub transcript_of : List Shown → List PlainMoment → List ℕ
 transcript_of shown moments = flat_map answer_line (zip shown moments)
 
 -- the line of each call's answer, the calls made one after another from an open and vacant round
 abbrev pub transcript : List Said → List ℕ
-transcript lines = transcript_of (map shown_of lines) (moments_from beginning (map call_said lines))
+transcript lines = transcript_of (map shown_of lines) (moments_from open_and_vacant (map call_said lines))
 
 abbrev pub mistake_line : Mistake → List ℕ
 mistake_line mistake = mistake_text mistake ++ line_end
 
 -- What is shown, and the moments of a run, are those of the lines' calls; and all is promised of them.
-pub record Answers (lines : List Said) (shown : List Shown) (moments : List Moment) : Type 0 where
+pub record Replayed (lines : List Said) (shown : List Shown) (moments : List PlainMoment) : Type 0 where
   pub shown_so : shown ≡ map shown_of lines
-  pub made : moments ≡ moments_from beginning (map call_said lines)
+  pub made : moments ≡ moments_from open_and_vacant (map call_said lines)
   pub promised : Promised (map call_said lines)
 
 -- What answers a journal, and whether it has a mistake: of one whose lines are all calls, a line for each call, and all that is

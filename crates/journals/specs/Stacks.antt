@@ -1,5 +1,5 @@
 -- Stacks of price rules as words. A rule is made of checked numbers only. Assumes nothing.
-use Rattle.std.specs.Prelude.{ℕ, zero, suc, ℤ, cond, List, [], ◌∷◌, Ok, Err}
+use Rattle.std.specs.Prelude.{ℕ, zero, suc, ℤ, List, [], ◌∷◌, Ok, Err, if◌then◌else◌}
 use Rattle.pricing.specs.Numbers.{zone_numbers, currency_rates}
 use Rattle.journals.specs.declared.names.Top.{Top}
 use Rattle.journals.specs.declared.names.Top.TheVariants as top
@@ -34,14 +34,14 @@ signeds_at (suc n) words = do
 unfoldable pub zones_at : List (List ℕ) → Reading (List ℤ)
 zones_at words = do
   zs ← signeds_at 16 words
-  cond (zone_numbers zs.0) (Ok zs) (Err RuleNumberOutside)
+  (if zone_numbers zs.0 then Ok zs else Err RuleNumberOutside)
 
 -- preference and expectation, in range
 unfoldable pub weighing_at : List (List ℕ) → Reading (ℕ × ℕ)
 weighing_at words = do
   preference ← number_at 4 words
   expectation ← number_at 4 preference.1
-  cond (currency_rates preference.0 expectation.0) (Ok ((preference.0, expectation.0), expectation.1)) (Err RuleNumberOutside)
+  (if currency_rates preference.0 expectation.0 then (Ok ((preference.0, expectation.0), expectation.1)) else Err RuleNumberOutside)
 
 -- the numbers of a stack's rules, the highest rule's first
 abbrev pub plain_at : Top → List (List ℕ) → Reading PlainStack

@@ -6,8 +6,8 @@ use Rattle.hex.specs.Hex.{encode_lower, IsBytes}
 use Rattle.offers.specs.Fields.{Field}
 use Rattle.offers.specs.Layouts.{Layout}
 use Rattle.offers.specs.Tables.{package_layout, band_layout, pair_layout, exclusion_layout, limit_layout}
-use Rattle.offers.specs.declared.memory.Kind.{Kind}
-use Rattle.offers.specs.declared.memory.Kind.TheVariants as kind
+use Rattle.offers.specs.declared.kinds.Kind.{Kind}
+use Rattle.offers.specs.declared.kinds.Kind.TheVariants as kind
 use Rattle.offers.specs.declared.memory.Offer.{Offer}
 use Rattle.offers.specs.declared.memory.Offer.TheVariants as offer
 use Rattle.pricing.specs.Numbers.{zone_numbers, currency_rates}

@@ -1,4 +1,4 @@
-// Answers as lines.
+//! Answers as lines.
 ghost use Rattle.std.specs.Prelude.{◌≡◌, Some};
 ghost use Rattle.std.specs.List.{flat_map};
 ghost use Rattle.hex.specs.Hex.{encode_lower};
@@ -7,9 +7,8 @@ ghost use Rattle.rounds.specs.Replays.{of_stage};
 ghost use Rattle.journals.specs.Answers.{refusal_text, place_text, bytes_text, shown_bytes, stage_word, answer_text};
 
 use crate::lines::Shown;
-use offers::refusals::Refusal;
-use rounds::replays::Stage;
-use rounds::requests::Reply;
+use offers::Refusal;
+use rounds::{Reply, Stage};
 use std::fmt;
 
 // A refusal with all its values.
@@ -51,7 +50,7 @@ impl fmt::Display for Places<'_> {
     }
 }
 
-// Bytes as two hexadecimal digits each.
+/// Bytes as two hexadecimal digits each.
 #[derive(Clone, Copy)]
 pub(crate) struct Hex<'a>(pub &'a [u8]);
 
@@ -82,7 +81,7 @@ impl fmt::Display for StageWord {
     }
 }
 
-// Bytes behind a space, and nothing where there are none.
+/// Bytes behind a space, and nothing where there are none.
 #[derive(Clone, Copy)]
 pub(crate) struct Behind<'a>(pub &'a [u8]);
 
@@ -107,7 +106,7 @@ fn shown_bytes(shown: Shown, length: usize, buffer: &[u8]) -> &[u8]
     }
 }
 
-// What a call was answered, in one line without its end: what of a buffer is shown, and where the round stands after the call.
+/// What a call was answered, in one line without its end: what of a buffer is shown, and where the round stands after the call.
 #[derive(Clone, Copy)]
 pub struct AnswerLine<'a> {
     pub reply: &'a Reply,
@@ -144,9 +143,9 @@ impl fmt::Display for AnswerLine<'_> {
 #[cfg(test)]
 mod tests {
     use super::*;
-    use offers::refusals::Code;
-    use rounds::awarded_round::Award;
-    use search::positions::Position;
+    use offers::Code;
+    use rounds::Award;
+    use search::Position;
     use std::process::Abort;
     use std::test::*;
 

@@ -1,6 +1,6 @@
-// Bytes as words of two hexadecimal digits each.
+//! Bytes as words of two hexadecimal digits each.
 ghost use Rattle.journals.specs.Bytes.{bytes_in, bytes_at};
-ghost use Rattle.journals.specs.Readers.{left, Reads};
+ghost use Rattle.journals.specs.Readers.{unread, Reads};
 
 use crate::words::Words;
 use crate::wrongs::{ReadError, Wrong};
@@ -18,9 +18,9 @@ fn decoded(heap: Global, word: &[u8]) -> Result<Vec<u8>, ReadError>
     }
 }
 
-// The next word as bytes; none where there is no word.
+/// The next word as bytes; none where there is no word.
 pub fn bytes(heap: Global, words: &mut Words) -> Result<Vec<u8>, ReadError>
-    ensures { Reads (λ bytes. (bytes.items, left words.new)) result (bytes_at (left words.old)) }
+    ensures { Reads (λ bytes. (bytes.items, unread words.new)) result (bytes_at (unread words.old)) }
 {
     match words.next() {
         Some(word) => decoded(heap, word),

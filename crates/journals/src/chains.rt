@@ -1,19 +1,18 @@
-// Bounding rules joined, read from words.
-ghost use Rattle.journals.specs.Readers.{left, Reads};
+//! Bounding rules joined, read from words.
+ghost use Rattle.journals.specs.Readers.{unread, Reads};
 ghost use Rattle.journals.specs.Chains.{joined_rules, chain_at};
 
 use crate::names::bounding_rule;
 use crate::parts::split_once;
 use crate::words::Words;
 use crate::wrongs::ReadError;
-use bounds::chains::Chain;
-use bounds::names::Named;
+use bounds::{Chain, Named};
 use std::alloc::Global;
 
-// The next word as rules joined by plus signs.
+/// The next word as rules joined by plus signs.
 #[tactic(auto, unfolding(crate::specs::Chains::chain_at))]
 pub fn chain(heap: Global, words: &mut Words) -> Result<Chain<Named>, ReadError>
-    ensures { Reads (λ chain. (joined_rules chain, left words.new)) result (chain_at (left words.old)) }
+    ensures { Reads (λ chain. (joined_rules chain, unread words.new)) result (chain_at (unread words.old)) }
 {
     let (name, mut rest) = split_once(words.word()?, b'+');
     let first = bounding_rule(name)?;

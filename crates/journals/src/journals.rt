@@ -1,4 +1,4 @@
-// A journal: its lines read into calls.
+//! A journal: its lines read into calls.
 ghost use Rattle.std.specs.Prelude.{◌≡◌, ◌<◌, ◌∷◌, IfSome, length, map, Some};
 ghost use Rattle.std.specs.Str.Lines.{strip_carriage_return};
 ghost use Rattle.journals.specs.declared.journals.JournalError.TheVariants as error;
@@ -12,10 +12,10 @@ use crate::wrongs::{ReadError, Wrong};
 use std::alloc::{AllocFailed, Global};
 use std::fmt;
 
-// A line that is no call, and why.
+/// A line that is no call, and why.
 #[derive(Clone, Copy, PartialEq, Eq, Debug)]
 pub struct Mistake {
-    // from 1
+    /// from 1
     pub line: usize,
     pub wrong: Wrong,
 }
@@ -30,7 +30,7 @@ impl fmt::Display for Mistake {
     }
 }
 
-// Why a journal could not be read.
+/// Why a journal could not be read.
 #[derive(Clone, Copy, PartialEq, Eq, Debug)]
 pub enum JournalError {
     OutOfMemory,
@@ -82,7 +82,7 @@ fn numbered(heap: Global, number: usize, line: &[u8]) -> Result<Option<Line>, Jo
     }
 }
 
-// The calls of all lines in order, or the first line that is no call and why.
+/// The calls of all lines in order, or the first line that is no call and why.
 pub fn read_journal(heap: Global, text: &[u8]) -> Result<Vec<Line>, JournalError>
     ensures { ReadsJournal (λ lines. map said lines.items) result (journal_in text.now) }
 {

@@ -1,39 +1,40 @@
-// The record of a round, one call a line: read into calls, run, and answered a line for each.
+//! The record of a round, one call a line: read into calls, run, and answered a line for each.
 #![tactic(auto)]
 
+mod answers;
 mod bytes;
 mod chains;
+mod journals;
+mod laws;
+mod lines;
 mod names;
 mod numbers;
 mod parts;
 mod records;
+mod requests;
+mod running;
+mod stacks;
 mod words;
+mod wrongs;
 
-// What a line says:
-//   Line           a call; its text is a line that reads back to it
-//   read_line      what one line says
-//   Stack          the price rules that a line names
-//   Wrong          why a line is no call
-pub mod lines;
-pub mod stacks;
-pub mod wrongs;
+/// Reads a journal, makes its calls, and writes their answers.
+pub use running::run_journal;
 
-// A journal:
-//   read_journal   the calls of all its lines, or the first line that is no call, and why
-//   Mistake        such a line; its text says why
-pub mod journals;
+/// The calls of all lines of a journal, or the first line that is no call, and why.
+pub use journals::{JournalError, Mistake, read_journal};
 
-// From a line to a call, and from an answer to a line:
-//   Line::request  the request that a line asks for
-//   planned        the requests of all lines
-//   AnswerLine     what a call was answered; its text is what is printed
-pub mod answers;
-pub mod requests;
+/// What one line says: a call, whose text is a line that reads back to it; and why a line is none.
+pub use lines::{Line, Shown, read_line};
+pub use wrongs::{ReadError, Wrong};
 
-// From bytes to text:
-//   run_journal    reads a journal, makes its calls, and writes their answers
-pub mod running;
+/// The price rules that a line names.
+pub use stacks::{Stack, Weighing, Zones};
 
-// What writing and reading owe each other:
-//   lines_read_back, journals_read_back, sheets_shown
-pub mod laws;
+/// The requests that lines ask for.
+pub use requests::{Plan, Pricing, planned};
+
+/// What a call was answered; its text is what is printed.
+pub use answers::AnswerLine;
+
+/// What writing and reading owe each other.
+pub use laws::{journals_read_back, lines_read_back, sheets_shown};

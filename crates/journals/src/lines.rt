@@ -1,33 +1,32 @@
-// The lines of a journal: what one says, read from its text.
+//! The lines of a journal: what one says, read from its text.
 use crate::stacks::Stack;
-use bounds::chains::Chain;
-use bounds::names::Named;
-use offers::memory::{Kind, Offer};
+use bounds::{Chain, Named};
+use offers::{Kind, Offer};
 
-// What a line says: a call.
+/// What a line says: a call.
 #[derive(Drop)]
 pub enum Line {
-    // a record under an offer number
+    /// a record under an offer number
     File(u8, Offer),
     Withdraw(Kind, u8),
-    // a sheet's bytes
+    /// a sheet's bytes
     CatchUp(Vec<u8>),
     Close(Stack),
-    // bounding rules, and a count of steps
+    /// bounding rules, and a count of steps
     Search(Chain<Named>, u32),
     Reopen,
-    // the length of the row that is lent
+    /// the length of the row that is lent
     Award(u32),
-    // the length of the buffer that is lent; none for one as long as the sheet
+    /// the length of the buffer that is lent; none for one as long as the sheet
     Sheet(Option<u32>),
 }
 
-// What is shown of a buffer.
+/// What is shown of a buffer.
 #[derive(Clone, Copy, PartialEq, Eq, Debug)]
 pub enum Shown {
-    // all its bytes
+    /// all its bytes
     Whole,
-    // those that the sheet filled
+    /// those that the sheet filled
     Written,
 }
 

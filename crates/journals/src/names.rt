@@ -1,15 +1,15 @@
-// The words that stand for calls, kinds of record, price rules and bounding rules.
+//! The words that stand for calls, kinds of record, price rules and bounding rules.
 ghost use Rattle.std.specs.Prelude.{◌≡◌};
 ghost use Rattle.journals.specs.declared.wrongs.Wrong.TheVariants.{UnknownWord, UnknownKind, UnknownRule};
 ghost use Rattle.journals.specs.Names.{case_named, verbs, kinds, stacks, bounding_rules};
-ghost use Rattle.journals.specs.Readers.{left, Gives, known, name_at};
+ghost use Rattle.journals.specs.Readers.{unread, Gives, known, name_at};
 
 use crate::words::Words;
 use crate::wrongs::Wrong;
-use bounds::names::Named;
-use offers::memory::Kind;
+use bounds::Named;
+use offers::Kind;
 
-// What a line begins with.
+/// What a line begins with.
 #[derive(Clone, Copy, PartialEq, Eq, Debug)]
 pub enum Verb {
     File,
@@ -22,7 +22,7 @@ pub enum Verb {
     Sheet,
 }
 
-// The rule on top of a stack of price rules.
+/// The rule on top of a stack of price rules.
 #[derive(Clone, Copy, PartialEq, Eq, Debug)]
 pub enum Top {
     Filed,
@@ -88,30 +88,30 @@ fn rule_named(word: &[u8]) -> Option<Named>
     }
 }
 
-// The call that a line's first word names.
+/// The call that a line's first word names.
 pub fn call_verb(word: &[u8]) -> Result<Verb, Wrong>
     ensures { result ≡ known UnknownWord (case_named verbs word.now) }
 {
     verb_named(word).ok_or(Wrong::UnknownWord)
 }
 
-// The next word as a kind.
+/// The next word as a kind.
 #[tactic(auto, unfolding(crate::specs::Readers::name_at))]
 pub fn next_kind(words: &mut Words) -> Result<Kind, Wrong>
-    ensures { Gives (λ kind. kind) result words.new (name_at UnknownKind kinds (left words.old)) }
+    ensures { Gives (λ kind. kind) result words.new (name_at UnknownKind kinds (unread words.old)) }
 {
     kind_named(words.word()?).ok_or(Wrong::UnknownKind)
 }
 
-// The next word as the rule on top of a stack of price rules.
+/// The next word as the rule on top of a stack of price rules.
 #[tactic(auto, unfolding(crate::specs::Readers::name_at))]
 pub fn next_top(words: &mut Words) -> Result<Top, Wrong>
-    ensures { Gives (λ top. top) result words.new (name_at UnknownRule stacks (left words.old)) }
+    ensures { Gives (λ top. top) result words.new (name_at UnknownRule stacks (unread words.old)) }
 {
     top_named(words.word()?).ok_or(Wrong::UnknownRule)
 }
 
-// A word as a bounding rule.
+/// A word as a bounding rule.
 pub fn bounding_rule(word: &[u8]) -> Result<Named, Wrong>
     ensures { result ≡ known UnknownRule (case_named bounding_rules word.now) }
 {

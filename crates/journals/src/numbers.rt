@@ -1,4 +1,4 @@
-// Words as numbers: decimal digits, and the bytes that a number has to fit.
+//! Words as numbers: decimal digits, and the bytes that a number has to fit.
 ghost use Rattle.std.specs.Prelude.{◌≡◌, ◌+◌, ◌-◌, ◌*◌, true, Ok, ◌^◌, nat_lt, if◌then◌else◌, Some, None};
 ghost use Rattle.std.specs.Char.{is_ascii_digit};
 ghost use Rattle.std.specs.List.{list_all};
@@ -21,7 +21,7 @@ fn followed(number: u64, digit: u8) -> Option<u64>
     number.checked_mul(10)?.checked_add((digit - b'0') as u64)
 }
 
-// The number that a word is, where eight bytes hold it.
+/// The number that a word is, where eight bytes hold it.
 pub fn u64_of(word: &[u8]) -> Result<u64, Wrong>
     ensures { result ≡ sized 8 (number_in word.now) }
 {
@@ -38,21 +38,21 @@ pub fn u64_of(word: &[u8]) -> Result<u64, Wrong>
     Ok(number)
 }
 
-// The number that a word is, where one byte holds it.
+/// The number that a word is, where one byte holds it.
 pub fn u8_of(word: &[u8]) -> Result<u8, Wrong>
     ensures { result ≡ sized 1 (number_in word.now) }
 {
     u8::try_from(u64_of(word)?).map_err(|_| Wrong::TooLarge)
 }
 
-// The number that a word is, where four bytes hold it.
+/// The number that a word is, where four bytes hold it.
 pub fn u32_of(word: &[u8]) -> Result<u32, Wrong>
     ensures { result ≡ sized 4 (number_in word.now) }
 {
     u32::try_from(u64_of(word)?).map_err(|_| Wrong::TooLarge)
 }
 
-// The number that a word is, where it has a minus in front or none, and four bytes hold it.
+/// The number that a word is, where it has a minus in front or none, and four bytes hold it.
 pub fn i64_of(word: &[u8]) -> Result<i64, Wrong>
     ensures { result ≡ signed_in word.now }
 {

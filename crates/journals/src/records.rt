@@ -1,15 +1,14 @@
-// Records as words: their fields from the left.
+//! Records as words: their fields from the left.
 ghost use Rattle.offers.specs.Tables.{package_layout, band_layout, pair_layout, exclusion_layout, limit_layout};
-ghost use Rattle.journals.specs.Readers.{left, Gives};
+ghost use Rattle.journals.specs.Readers.{unread, Gives};
 ghost use Rattle.journals.specs.Records.{record_at, offer_at};
 
 use crate::words::Words;
 use crate::wrongs::Wrong;
-use offers::memory::{Kind, Offer};
-use offers::records::{Band, Exclusion, Limit, Package, Pair};
+use offers::{Band, Exclusion, Kind, Limit, Offer, Package, Pair};
 
 fn package(words: &mut Words) -> Result<Package, Wrong>
-    ensures { Gives (λ r. r) result words.new (record_at package_layout (left words.old)) }
+    ensures { Gives (λ r. r) result words.new (record_at package_layout (unread words.old)) }
 {
     Ok(Package {
         power: words.next_u32()?,
@@ -28,7 +27,7 @@ fn package(words: &mut Words) -> Result<Package, Wrong>
 }
 
 fn band(words: &mut Words) -> Result<Band, Wrong>
-    ensures { Gives (λ r. r) result words.new (record_at band_layout (left words.old)) }
+    ensures { Gives (λ r. r) result words.new (record_at band_layout (unread words.old)) }
 {
     Ok(Band {
         market: words.next_u8()?,
@@ -38,7 +37,7 @@ fn band(words: &mut Words) -> Result<Band, Wrong>
 }
 
 fn pair(words: &mut Words) -> Result<Pair, Wrong>
-    ensures { Gives (λ r. r) result words.new (record_at pair_layout (left words.old)) }
+    ensures { Gives (λ r. r) result words.new (record_at pair_layout (unread words.old)) }
 {
     Ok(Pair {
         dependent: words.next_u8()?,
@@ -47,7 +46,7 @@ fn pair(words: &mut Words) -> Result<Pair, Wrong>
 }
 
 fn exclusion(words: &mut Words) -> Result<Exclusion, Wrong>
-    ensures { Gives (λ r. r) result words.new (record_at exclusion_layout (left words.old)) }
+    ensures { Gives (λ r. r) result words.new (record_at exclusion_layout (unread words.old)) }
 {
     Ok(Exclusion {
         group: words.next_u8()?,
@@ -56,7 +55,7 @@ fn exclusion(words: &mut Words) -> Result<Exclusion, Wrong>
 }
 
 fn limit(words: &mut Words) -> Result<Limit, Wrong>
-    ensures { Gives (λ r. r) result words.new (record_at limit_layout (left words.old)) }
+    ensures { Gives (λ r. r) result words.new (record_at limit_layout (unread words.old)) }
 {
     Ok(Limit {
         sort: words.next_u8()?,
@@ -65,9 +64,9 @@ fn limit(words: &mut Words) -> Result<Limit, Wrong>
     })
 }
 
-// A record of the kind.
+/// A record of the kind.
 pub fn offer(kind: Kind, words: &mut Words) -> Result<Offer, Wrong>
-    ensures { Gives (λ r. r) result words.new (offer_at kind (left words.old)) }
+    ensures { Gives (λ r. r) result words.new (offer_at kind (unread words.old)) }
 {
     Ok(match kind {
         Kind::Package => Offer::Package(package(words)?),

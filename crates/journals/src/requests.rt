@@ -1,4 +1,4 @@
-// The requests that lines ask for.
+//! The requests that lines ask for.
 ghost use Rattle.std.specs.Prelude.{◌≡◌, IfOk, map};
 ghost use Rattle.rounds.specs.Requests.{call_of};
 ghost use Rattle.journals.specs.Calls.{meaning_of, call_said, shown_of, fullest};
@@ -7,19 +7,12 @@ ghost use Rattle.journals.specs.Stacks.{plain_stack};
 
 use crate::lines::{Line, Shown};
 use crate::stacks::{Stack, Weighing, Zones};
-use bounds::blocks::BoundingRule;
-use bounds::chains::Chain;
-use bounds::names::Named;
-use pricing::currency::Currency;
-use pricing::filed::Filed;
-use pricing::numbers::{Rates, ZoneNumbers};
-use pricing::place::Place;
-use pricing::rules::PriceRule;
-use rounds::requests::Request;
-use rounds::rules::OneOf;
+use bounds::{BoundingRule, Chain, Named};
+use pricing::{Currency, Filed, Place, PriceRule, Rates, ZoneNumbers};
+use rounds::{OneOf, Request};
 use std::alloc::{AllocError, Global};
 
-// The stacks of price rules that a line can name: filed, place on filed, currency on place on filed.
+/// The stacks of price rules that a line can name: filed, place on filed, currency on place on filed.
 pub type Pricing = OneOf<Filed, OneOf<Place<Filed>, Currency<Place<Filed>>>>;
 
 // The bytes of a sheet of a round that holds an offer under every number: for each kind so many fields of so many bytes.
@@ -51,7 +44,7 @@ impl Weighing {
 }
 
 impl Stack {
-    // The rules of the stack.
+    /// The rules of the stack.
     pub fn pricing(self) -> Pricing
         ensures { ⟦<Pricing as PriceRule>⟧.meaning result ≡ meaning_of (plain_stack self) }
     {
@@ -73,7 +66,7 @@ impl Stack {
 }
 
 impl Line {
-    // The request that the line asks for, with rows and buffers full of zeros.
+    /// The request that the line asks for, with rows and buffers full of zeros.
     pub fn request(self, heap: Global) -> Result<Request<Pricing, Chain<Named>>, AllocError>
         ensures { IfOk result (λ request.
             call_of ⟦<Pricing as PriceRule>⟧.meaning ⟦<Chain<Named> as BoundingRule>⟧.answers request ≡ call_said (said self)) }
@@ -93,7 +86,7 @@ impl Line {
         })
     }
 
-    // What of its buffer is shown.
+    /// What of its buffer is shown.
     pub fn shown(&self) -> Shown
         ensures { result ≡ shown_of (said self.now) }
     {
@@ -104,14 +97,14 @@ impl Line {
     }
 }
 
-// What a run of a journal takes: a request for each line, and what is shown of its buffer.
+/// What a run of a journal takes: a request for each line, and what is shown of its buffer.
 #[derive(Drop)]
 pub struct Plan {
     pub requests: Vec<Request<Pricing, Chain<Named>>>,
     pub shown: Vec<Shown>,
 }
 
-// The requests of lines, in order.
+/// The requests of lines, in order.
 pub fn planned(heap: Global, lines: Vec<Line>) -> Result<Plan, AllocError>
     ensures requests { IfOk result (λ plan.
         map (call_of ⟦<Pricing as PriceRule>⟧.meaning ⟦<Chain<Named> as BoundingRule>⟧.answers) plan.requests.items

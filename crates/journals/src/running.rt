@@ -1,15 +1,15 @@
-// A journal's whole way: its bytes are read, its calls are made, and a line is written for each answer.
+//! A journal's whole way: its bytes are read, its calls are made, and a line is written for each answer.
 ghost use Rattle.std.specs.Prelude.{◌≡◌, IfOk, IfSome, Some, map, vec_items};
 ghost use Rattle.journals.specs.Lines.{said};
-ghost use Rattle.journals.specs.Running.{Ran, Answers, transcript_of, mistake_line};
+ghost use Rattle.journals.specs.Running.{Ran, Replayed, transcript_of, mistake_line};
 ghost use Rattle.rounds.specs.Replays.{moment_of};
 
 use crate::answers::AnswerLine;
 use crate::journals::{JournalError, Mistake, read_journal};
 use crate::lines::{Line, Shown};
 use crate::requests::planned;
-use printing::texts::write_text;
-use rounds::replays::{Moment, Watch, replay};
+use printing::write_text;
+use rounds::{Moment, Watch, replay};
 use std::alloc::{AllocError, Global};
 use std::io::{ErrorKind, Read, Write};
 use std::{fmt, io};
@@ -49,8 +49,8 @@ impl fmt::Display for MistakeLine {
     }
 }
 
-// Reads a journal, makes its calls from an open and vacant round, and writes a line for each answer; where a line is no call, makes
-// none and writes the first mistake alone. Answers whether there was a mistake. Nothing is written before the whole text is made.
+/// Reads a journal, makes its calls from an open and vacant round, and writes a line for each answer; where a line is no call, makes
+/// none and writes the first mistake alone. Answers whether there was a mistake. Nothing is written before the whole text is made.
 pub fn run_journal<R: Read + Drop, W: Write, T: Watch>(
     heap: Global,
     input: R,
@@ -85,7 +85,7 @@ fn read_text<R: Read + Drop>(heap: Global, mut input: R) -> io::Result<Vec<u8>>
 
 // Makes the calls of all lines.
 fn run<T: Watch>(heap: Global, lines: Vec<Line>, watch: &mut T) -> Result<Transcript, AllocError>
-    ensures { IfOk result (λ t. Answers (map said lines.items) (vec_items t.shown) (map moment_of (vec_items t.moments))) }
+    ensures { IfOk result (λ t. Replayed (map said lines.items) (vec_items t.shown) (map moment_of (vec_items t.moments))) }
 {
     let plan = planned(heap, lines)?;
     let run = replay(heap, plan.requests, watch)?;
@@ -98,7 +98,7 @@ fn run<T: Watch>(heap: Global, lines: Vec<Line>, watch: &mut T) -> Result<Transc
 #[cfg(test)]
 mod tests {
     use super::*;
-    use printing::failing::{CutOff, Full};
+    use printing::{CutOff, Full};
     use std::process::Abort;
     use std::test::*;
 

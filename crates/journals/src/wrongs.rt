@@ -1,28 +1,28 @@
-// Why a line is no call.
+//! Why a line is no call.
 ghost use Rattle.std.specs.Prelude.{◌≡◌, Some};
 ghost use Rattle.journals.specs.declared.wrongs.ReadError.TheVariants as error;
 
 use std::alloc::{AllocError, AllocFailed};
 use std::fmt;
 
-// What is wrong with a line.
+/// What is wrong with a line.
 #[derive(Clone, Copy, PartialEq, Eq, Debug)]
 pub enum Wrong {
-    // the first word names no call
+    /// the first word names no call
     UnknownWord,
     UnknownKind,
     UnknownRule,
     WordMissing,
     WordTooMany,
     NotANumber,
-    // a number that its field's bytes do not hold
+    /// a number that its field's bytes do not hold
     TooLarge,
-    // a price rule's check refuses its numbers
+    /// a price rule's check refuses its numbers
     RuleNumberOutside,
     NotBytes,
 }
 
-// Why a line could not be read.
+/// Why a line could not be read.
 #[derive(Clone, Copy, PartialEq, Eq, Debug)]
 pub enum ReadError {
     OutOfMemory,

@@ -12,20 +12,20 @@ IsLedger k size es = record { whole : length es ≡ size; numbered : length es �
 
 module _ {R : Type 0} {size : ℕ} {g : _} {h : _} (ledger : Ledger R size g h) (n : ℕ) {after : List (Entry R)} where
   -- a call on one number leaves as many entries, so it is enough that it leaves them in range
-  moved-is_ledger : (o : Outcome (List (Entry R))) → Moves ledger.entries n o → InRange g.layout o.left
-      → after ≡ o.left → IsLedger g.layout size after
+  moved-is_ledger : (o : Outcome (List (Entry R))) → Moves ledger.entries n o → InRange g.layout o.after
+      → after ≡ o.after → IsLedger g.layout size after
   moved-is_ledger o moved ok e = subst (IsLedger g.layout size) (sym e) (record {
     whole = moved.as_long ∙ ledger.whole;
     numbered = moved.as_long ∙ ledger.numbered;
     in_range = ok;
   })
 
-  pub filing-is_ledger : (r : R) → after ≡ (filing g.layout ledger.entries n r).left → IsLedger g.layout size after
+  pub filing-is_ledger : (r : R) → after ≡ (filing g.layout ledger.entries n r).after → IsLedger g.layout size after
   filing-is_ledger r =
       moved-is_ledger (filing g.layout ledger.entries n r)
       (filing_moved g.layout ledger.entries n r) (filing-in_range g.layout ledger.entries n ledger.in_range r)
 
-  pub withdrawing-is_ledger : after ≡ (withdrawing g.layout ledger.entries n).left → IsLedger g.layout size after
+  pub withdrawing-is_ledger : after ≡ (withdrawing g.layout ledger.entries n).after → IsLedger g.layout size after
   withdrawing-is_ledger =
       moved-is_ledger (withdrawing g.layout ledger.entries n)
       (withdrawing_moved g.layout ledger.entries n) (withdrawing-in_range g.layout ledger.entries n ledger.in_range)

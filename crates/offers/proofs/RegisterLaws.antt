@@ -8,9 +8,9 @@ use Rattle.offers.specs.declared.refusals.Code.TheVariants.{NumberOutside, Field
 use Rattle.offers.specs.declared.refusals.Refusal.{Refusal}
 use Rattle.offers.specs.declared.registers.Entry.{Entry}
 use Rattle.offers.specs.declared.registers.Entry.TheVariants.{Vacant, Open, Withdrawn}
-use Rattle.offers.specs.Refusals.{refused_at, Carries}
+use Rattle.offers.specs.Refusals.{Carries}
 use Rattle.offers.specs.Layouts.{Layout, fault_of}
-use Rattle.offers.specs.Registers.{Outcome, entry, numbered, place, filing, file_over, withdrawing, withdraw_over, refuse, Onward, Moved, held_fault, InRange}
+use Rattle.offers.specs.Registers.{Outcome, entry, numbered, place, filing, file_over, withdrawing, withdraw_over, refused_number, refused_field, refuse, Onward, Moved, entry_fault, InRange}
 
 -- an entry that stays has gone no step back
 pub onward-same : {R : Type 0} (e : Entry R) → Onward e e
@@ -50,7 +50,7 @@ accepted_moved es n e low high on = record {
 
 -- what a call on a register keeps, said of its whole outcome
 abbrev pub Moves : {R : Type 0} → List (Entry R) → ℕ → Outcome (List (Entry R)) → Type 0
-Moves es n o = Moved es n o.answer o.left
+Moves es n o = Moved es n o.answer o.after
 
 module _ {R : Type 0} (k : Layout R) (es : List (Entry R)) (n : ℕ) where
   -- a number that has an entry lies within the register
@@ -71,47 +71,47 @@ module _ {R : Type 0} (k : Layout R) (es : List (Entry R)) (n : ℕ) where
 
   over-filed : (r : R) → 1 ≤ n → n ≤ length es → (held : Entry R) → entry es n ≡ held → Moves es n (file_over k es n r held)
   over-filed r low high Vacant e = accepted_moved es n (Open r) low high (rw e tt)
-  over-filed r low high (Open old) e = refused_moved es n (refused_at AlreadyOpen k.tag n 0)
-  over-filed r low high (Withdrawn old) e = refused_moved es n (refused_at AlreadyWithdrawn k.tag n 0)
+  over-filed r low high (Open old) e = refused_moved es n (refused_number k AlreadyOpen n)
+  over-filed r low high (Withdrawn old) e = refused_moved es n (refused_number k AlreadyWithdrawn n)
 
   pub filing_moved : (r : R) → Moves es n (filing k es n r)
   filing_moved r =
       cond_both (numbered k es n) _ _ (Moves es n)
       (λ e. cond_both (eqb (fault_of k r) 0) _ _ (Moves es n)
       (λ _. over-filed r (inside e).0 (inside e).1 (entry es n) refl)
-      (λ _. refused_moved es n (refused_at FieldOutside k.tag n (fault_of k r))))
-      (λ _. refused_moved es n (refused_at NumberOutside k.tag n 0))
+      (λ _. refused_moved es n (refused_field k n (fault_of k r))))
+      (λ _. refused_moved es n (refused_number k NumberOutside n))
 
   over-withdrawn : 1 ≤ n → n ≤ length es → (held : Entry R) → entry es n ≡ held → Moves es n (withdraw_over k es n held)
-  over-withdrawn low high Vacant e = refused_moved es n (refused_at NotFiled k.tag n 0)
+  over-withdrawn low high Vacant e = refused_moved es n (refused_number k NotFiled n)
   over-withdrawn low high (Open r) e = accepted_moved es n (Withdrawn r) low high (rw e (inr refl))
-  over-withdrawn low high (Withdrawn r) e = refused_moved es n (refused_at AlreadyWithdrawn k.tag n 0)
+  over-withdrawn low high (Withdrawn r) e = refused_moved es n (refused_number k AlreadyWithdrawn n)
 
   pub withdrawing_moved : Moves es n (withdrawing k es n)
   withdrawing_moved =
       cond_both (numbered k es n) _ _ (Moves es n)
       (λ e. over-withdrawn (inside e).0 (inside e).1 (entry es n) refl)
-      (λ _. refused_moved es n (refused_at NumberOutside k.tag n 0))
+      (λ _. refused_moved es n (refused_number k NumberOutside n))
 
 -- the refusals of an outcome carry no more than their codes do
 abbrev pub Fair : {A : Type 0} → Outcome A → Type 0
 Fair o = (r : Refusal) → o.answer ≡ Err r → Carries r
 
 -- a refusal is fair if the one that it names carries no more than its code does
-fair_refusal : {A : Type 0} (left : A) (said : Refusal) → Carries said → Fair (record { answer = Err said; left = left })
+fair_refusal : {A : Type 0} (left : A) (said : Refusal) → Carries said → Fair (record { answer = Err said; after = left })
 fair_refusal left said ok r e = let same : said ≡ r = cc in subst Carries same ok
 
 module _ {R : Type 0} (k : Layout R) (es : List (Entry R)) (n : ℕ) where
   -- a refusal of the number alone, of whatever code, carries tag and number
-  plain-refusal : (code : Code) → Carries (refused_at code k.tag n 0) → Fair (refuse k es code n 0)
-  plain-refusal code = fair_refusal es (refused_at code k.tag n 0)
+  plain-refusal : (code : Code) → Carries (refused_number k code n) → Fair (refuse es (refused_number k code n))
+  plain-refusal code = fair_refusal es (refused_number k code n)
 
   over-filed_fair : (r : R) (held : Entry R) → Fair (file_over k es n r held)
   over-filed_fair r Vacant = λ said e. absurd (not_both said e)
   over-filed_fair r (Open old) = plain-refusal AlreadyOpen (record { tag = tt; number = tt; field = refl; byte = refl; depth = refl })
   over-filed_fair r (Withdrawn old) = plain-refusal AlreadyWithdrawn (record { tag = tt; number = tt; field = refl; byte = refl; depth = refl })
 
-  outside_fair : Fair (refuse k es NumberOutside n 0)
+  outside_fair : Fair (refuse es (refused_number k NumberOutside n))
   outside_fair = plain-refusal NumberOutside (record { tag = tt; number = tt; field = refl; byte = tt; depth = refl })
 
   pub filing_fair : (r : R) → Fair (filing k es n r)
@@ -119,7 +119,7 @@ module _ {R : Type 0} (k : Layout R) (es : List (Entry R)) (n : ℕ) where
       cond_both (numbered k es n) _ _ Fair
       (λ _. cond_both (eqb (fault_of k r) 0) _ _ Fair
       (λ _. over-filed_fair r (entry es n))
-      (λ _. fair_refusal es (refused_at FieldOutside k.tag n (fault_of k r)) (record { tag = tt; number = tt; field = tt; byte = tt; depth = refl })))
+      (λ _. fair_refusal es (refused_field k n (fault_of k r)) (record { tag = tt; number = tt; field = tt; byte = tt; depth = refl })))
       (λ _. outside_fair)
 
   over-withdrawn_fair : (held : Entry R) → Fair (withdraw_over k es n held)
@@ -131,22 +131,22 @@ module _ {R : Type 0} (k : Layout R) (es : List (Entry R)) (n : ℕ) where
   withdrawing_fair = cond_both (numbered k es n) _ _ Fair (λ _. over-withdrawn_fair (entry es n)) (λ _. outside_fair)
 
 -- a register with one entry set is in range if that entry's record is
-pub set-in_range : {R : Type 0} (k : Layout R) (es : List (Entry R)) (at : ℕ) (e : Entry R) → InRange k es → held_fault k e ≡ 0 → InRange k (set es at e)
+pub set-in_range : {R : Type 0} (k : Layout R) (es : List (Entry R)) (at : ℕ) (e : Entry R) → InRange k es → entry_fault k e ≡ 0 → InRange k (set es at e)
 set-in_range k es at e ok new i = ⊎_elim here there (cases_eq i at)
   where
-    inside_or_past : i ≡ at → (at < length es) ⊎ (length es ≤ at) → held_fault k (get_or (set es at e) i Vacant) ≡ 0
+    inside_or_past : i ≡ at → (at < length es) ⊎ (length es ≤ at) → entry_fault k (get_or (set es at e) i Vacant) ≡ 0
     inside_or_past same (inl h) = rw (same, get_or-set_same es at e Vacant h) new
     inside_or_past same (inr h) = rw (set_past es at e h) (ok i)
 
-    here : i ≡ at → held_fault k (get_or (set es at e) i Vacant) ≡ 0
+    here : i ≡ at → entry_fault k (get_or (set es at e) i Vacant) ≡ 0
     here same = inside_or_past same (cases_lt at (length es))
 
-    there : (i ≡ at → ⊥) → held_fault k (get_or (set es at e) i Vacant) ≡ 0
+    there : (i ≡ at → ⊥) → entry_fault k (get_or (set es at e) i Vacant) ≡ 0
     there ne = rw (get_or-set_other es at i e Vacant ne) (ok i)
 
 -- an outcome whose entries are in range
 abbrev Ranged : {R : Type 0} → Layout R → Outcome (List (Entry R)) → Type 0
-Ranged k o = InRange k o.left
+Ranged k o = InRange k o.after
 
 -- a register in range stays so: only a record in range is filed, and a withdrawn entry holds the record that it held open
 module _ {R : Type 0} (k : Layout R) (es : List (Entry R)) (n : ℕ) (ok : InRange k es) where
@@ -155,7 +155,7 @@ module _ {R : Type 0} (k : Layout R) (es : List (Entry R)) (n : ℕ) (ok : InRan
   over-filed_in_range r fine (Open old) = ok
   over-filed_in_range r fine (Withdrawn old) = ok
 
-  pub filing-in_range : (r : R) → InRange k (filing k es n r).left
+  pub filing-in_range : (r : R) → InRange k (filing k es n r).after
   filing-in_range r =
       cond_both (numbered k es n) _ _ (Ranged k)
       (λ _. cond_both (eqb (fault_of k r) 0) _ _ (Ranged k)
@@ -168,5 +168,5 @@ module _ {R : Type 0} (k : Layout R) (es : List (Entry R)) (n : ℕ) (ok : InRan
   over-withdrawn_in_range (Open r) e = set-in_range k es (n - 1) (Withdrawn r) ok (rw e at (ok (n - 1)))
   over-withdrawn_in_range (Withdrawn r) e = ok
 
-  pub withdrawing-in_range : InRange k (withdrawing k es n).left
+  pub withdrawing-in_range : InRange k (withdrawing k es n).after
   withdrawing-in_range = cond_both (numbered k es n) _ _ (Ranged k) (λ _. over-withdrawn_in_range (entry es n) refl) (λ _. ok)

@@ -1,5 +1,5 @@
 -- A record as a row of fields: its bytes, its first field out of range, its values read from bytes. Assumes nothing.
-use Rattle.std.specs.Prelude.{ℕ, zero, suc, ◌+◌, ◌/◌, ◌%◌, ◌^◌, Bool, cond, ◌&&◌, List, [], ◌∷◌, ◌++◌, take, drop, nat_le}
+use Rattle.std.specs.Prelude.{ℕ, zero, suc, ◌+◌, ◌/◌, ◌%◌, ◌^◌, Bool, ◌&&◌, List, [], ◌∷◌, ◌++◌, take, drop, nat_le, if◌then◌else◌}
 use Rattle.std.specs.Int.Digits.{number_from_digits}
 
 -- One field of a record: its bytes on a sheet, its value, and whether that value is in range.
@@ -38,7 +38,7 @@ values_by (f ∷ fs) bs = number_from_digits 256 (take f.width bs) ∷ values_by
 -- the first false one of a row, counted from n; 0 where all are true
 abbrev pub first_false : ℕ → List Bool → ℕ
 first_false n [] = 0
-first_false n (b ∷ bs) = cond b (first_false (n + 1) bs) n
+first_false n (b ∷ bs) = if b then first_false (n + 1) bs else n
 
 -- for each field whether its value is in range
 abbrev pub allowed_by : {R : Type 0} → List (Field R) → R → List Bool

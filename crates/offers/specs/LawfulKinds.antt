@@ -5,9 +5,9 @@ use Rattle.std.proofs.lemmas.Bool.{and_parts, leb-true}
 use Rattle.std.proofs.lemmas.Bool.Decides.{Decides-and, Decides-eqb}
 use Rattle.offers.specs.declared.records.Package.{Package}
 use Rattle.offers.specs.Fields.{within}
-use Rattle.offers.specs.Layouts.{Lawful}
+use Rattle.offers.specs.Layouts.{LayoutLaws}
 use Rattle.offers.specs.Tables.{package_layout, band_layout, pair_layout, exclusion_layout, limit_layout}
-use Rattle.offers.specs.LawfulLayouts.{lawful}
+use Rattle.offers.specs.LawfulLayouts.{layout_laws}
 
 -- a value in range has room where the greatest has
 fits : (least most room n : ℕ) → most < room → within least most n ≡ true → n < room
@@ -20,24 +20,24 @@ fits_either true least most low high room n h k e = fits least most room n h e
 fits_either false least most low high room n h k e = fits low high room n k e
 
 -- the ranges of a package have room in four, eight and one bytes
-pub package_lawful : Lawful package_layout
-package_lawful = lawful package_layout (λ p. refl) (λ p. search (rules, fits))
+pub package_laws : LayoutLaws package_layout
+package_laws = layout_laws package_layout (λ p. refl) (λ p. search (rules, fits))
 
 -- those of a band in one byte and in four
-pub band_lawful : Lawful band_layout
-band_lawful = lawful band_layout (λ b. refl) (λ b. search (rules, fits))
+pub band_laws : LayoutLaws band_layout
+band_laws = layout_laws band_layout (λ b. refl) (λ b. search (rules, fits))
 
 -- a pair's second field is in its range, and differs from the first
-pub pair_lawful : Lawful pair_layout
-pair_lawful = lawful pair_layout (λ p. refl) (λ p. search (rules, fits, and_parts))
+pub pair_laws : LayoutLaws pair_layout
+pair_laws = layout_laws pair_layout (λ p. refl) (λ p. search (rules, fits, and_parts))
 
 -- an exclusion's ranges have room in one byte
-pub exclusion_lawful : Lawful exclusion_layout
-exclusion_lawful = lawful exclusion_layout (λ e. refl) (λ e. search (rules, fits))
+pub exclusion_laws : LayoutLaws exclusion_layout
+exclusion_laws = layout_laws exclusion_layout (λ e. refl) (λ e. search (rules, fits))
 
 -- a limit's sort says which range its zone and its amount have
-pub limit_lawful : Lawful limit_layout
-limit_lawful = lawful limit_layout (λ l. refl) (λ l. search (rules, fits, fits_either))
+pub limit_laws : LayoutLaws limit_layout
+limit_laws = layout_laws limit_layout (λ l. refl) (λ l. search (rules, fits, fits_either))
 
 -- equal fields make equal packages
 pub package_known : (p q : Package) → Decides (p.power == q.power && (p.energy == q.energy && (p.certificates == q.certificates && (p.nameplate == q.nameplate && (p.price == q.price && (p.power_zone == q.power_zone && (p.interconnection_zone == q.interconnection_zone && (p.export_zone == q.export_zone && (p.price_zone == q.price_zone && (p.date == q.date && (p.unqualified == q.unqualified && (p.dollar == q.dollar)))))))))))) (p ≡ q)

@@ -3,7 +3,7 @@ use Rattle.std.specs.Prelude.{◌≡◌, ℕ, ◌+◌, ◌^◌, ◌<◌, Bool, t
 use Rattle.std.proofs.Common.{sym, ap, ◌∙◌, mod-eq_of_lt, arith}
 use Rattle.std.proofs.lemmas.List.{length-append, take_at, drop_at}
 use Rattle.offers.specs.Fields.{Field, high_first, widths, bytes_by, values_by, first_false, allowed_by}
-use Rattle.offers.specs.Layouts.{Layout, Lawful, bytes_of, read_from, fault_of}
+use Rattle.offers.specs.Layouts.{Layout, LayoutLaws, bytes_of, read_from, fault_of}
 use Rattle.offers.specs.HighFirst.{length-high_first, number-high_first}
 
 -- the values of a record's fields
@@ -40,9 +40,9 @@ values_back (f ∷ fs) r n h narrow none =
     rw (take_at _ (bytes_by fs r) f.width wide, drop_at _ (bytes_by fs r) f.width wide, fits, rest)
 
 -- the bytes give the values back, and the values make up the record, so that two records with equal bytes are equal
-pub lawful : {R : Type 0} (k : Layout R) → ((r : R) → k.record_of (values_of k.fields r) ≡ r)
-    → ((r : R) → Narrow k.fields r) → Lawful k
-lawful k whole narrow = record {
+pub layout_laws : {R : Type 0} (k : Layout R) → ((r : R) → k.record_of (values_of k.fields r) ≡ r)
+    → ((r : R) → Narrow k.fields r) → LayoutLaws k
+layout_laws k whole narrow = record {
   sized = length-bytes k.fields;
   reads_back = back;
   apart = λ r s p q e. sym (back r p) ∙ ap (read_from k) e ∙ back s q;

@@ -32,7 +32,7 @@ numbered_field zero = None
 numbered_field (suc n) = Some (suc n)
 
 -- what every kind owes
-pub record Lawful {R : Type 0} (k : Layout R) : Type 0 where
+pub record LayoutLaws {R : Type 0} (k : Layout R) : Type 0 where
   -- a record's bytes have the kind's length
   pub sized : (r : R) → length (bytes_of k r) ≡ size_of k
   -- the bytes of a record in range read back to it

@@ -1,22 +1,22 @@
 -- Which case a byte stands for: a kind by its tag, a limit's sort, a package's date. Assumes nothing.
-use Rattle.std.specs.Prelude.{ℕ, cond, Some, None, Ok, Err, Option, Result, ◌==◌}
-use Rattle.offers.specs.declared.marks.Unknown.{Unknown}
-use Rattle.offers.specs.declared.marks.Sort.{Sort}
-use Rattle.offers.specs.declared.marks.Sort.TheVariants.{Interconnection, Export, Percentage}
-use Rattle.offers.specs.declared.marks.Date.{Date}
-use Rattle.offers.specs.declared.marks.Date.TheVariants.{Standard, Before, After}
-use Rattle.offers.specs.declared.memory.Kind.{Kind}
-use Rattle.offers.specs.declared.memory.Kind.TheVariants as kind
+use Rattle.std.specs.Prelude.{ℕ, Some, None, Ok, Err, Option, Result, ◌==◌, if◌then◌else◌}
+use Rattle.offers.specs.declared.kinds.Unknown.{Unknown}
+use Rattle.offers.specs.declared.records.Sort.{Sort}
+use Rattle.offers.specs.declared.records.Sort.TheVariants.{Interconnection, Export, Percentage}
+use Rattle.offers.specs.declared.records.Date.{Date}
+use Rattle.offers.specs.declared.records.Date.TheVariants.{Standard, Before, After}
+use Rattle.offers.specs.declared.kinds.Kind.{Kind}
+use Rattle.offers.specs.declared.kinds.Kind.TheVariants as kind
 use Rattle.offers.specs.Memory.{layout_of}
 
 -- the kind that a tag marks
 abbrev pub kind_of_tag : ℕ → Option Kind
 kind_of_tag t =
-    cond (t == (layout_of kind.Package).tag) (Some kind.Package)
-    (cond (t == (layout_of kind.Band).tag) (Some kind.Band)
-    (cond (t == (layout_of kind.Pair).tag) (Some kind.Pair)
-    (cond (t == (layout_of kind.Exclusion).tag) (Some kind.Exclusion)
-    (cond (t == (layout_of kind.Limit).tag) (Some kind.Limit) None))))
+    if t == (layout_of kind.Package).tag then Some kind.Package
+    else if t == (layout_of kind.Band).tag then Some kind.Band
+    else if t == (layout_of kind.Pair).tag then Some kind.Pair
+    else if t == (layout_of kind.Exclusion).tag then Some kind.Exclusion
+    else if t == (layout_of kind.Limit).tag then Some kind.Limit else None
 
 -- the byte of a limit's sort
 abbrev pub sort_byte : Sort → ℕ

@@ -10,8 +10,8 @@ use Rattle.offers.specs.declared.records.Exclusion.{Exclusion}
 use Rattle.offers.specs.declared.records.Limit.{Limit}
 use Rattle.offers.specs.declared.memory.Offer.{Offer}
 use Rattle.offers.specs.declared.memory.Offer.TheVariants as offer
-use Rattle.offers.specs.declared.memory.Kind.{Kind}
-use Rattle.offers.specs.declared.memory.Kind.TheVariants as kind
+use Rattle.offers.specs.declared.kinds.Kind.{Kind}
+use Rattle.offers.specs.declared.kinds.Kind.TheVariants as kind
 use Rattle.offers.specs.declared.memory.Offers.{Offers}
 use Rattle.offers.specs.Layouts.{Layout}
 use Rattle.offers.specs.Refusals.{Carries}
@@ -27,8 +27,8 @@ pub record Entries : Type 0 where
   pub limits : List (Entry Limit)
 
 -- what a round holds of its offers
-abbrev pub held : Offers → Entries
-held os = record {
+abbrev pub entries_in : Offers → Entries
+entries_in os = record {
   packages = os.packages.entries;
   bands = os.bands.entries;
   pairs = os.pairs.entries;
@@ -68,8 +68,8 @@ with_entries all kind.Exclusion es = record { packages = all.packages; bands = a
 with_entries all kind.Limit es = record { packages = all.packages; bands = all.bands; pairs = all.pairs; exclusions = all.exclusions; limits = es }
 
 -- every number of every kind is vacant
-abbrev pub vacant : Entries
-vacant = record {
+abbrev pub all_vacant : Entries
+all_vacant = record {
   packages = replicate 40 Vacant;
   bands = replicate 64 Vacant;
   pairs = replicate 64 Vacant;
@@ -84,7 +84,7 @@ pub record Sound (all : Entries) : Type 0 where
 
 -- what a call on one kind leaves, as what it leaves of all kinds
 abbrev pub lifted : Entries → (k : Kind) → Outcome (List (Entry (RecordOf k))) → Outcome Entries
-lifted all k o = record { answer = o.answer; left = with_entries all k o.left }
+lifted all k o = record { answer = o.answer; after = with_entries all k o.after }
 
 -- filing a record of a kind under a number
 abbrev pub file_kind : Entries → ℕ → (k : Kind) → RecordOf k → Outcome Entries

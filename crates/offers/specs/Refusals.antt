@@ -18,10 +18,9 @@ code_number PriceFault = 10
 code_number NoRoom = 11
 code_number StepsOutside = 12
 
--- a refusal of a call on one number of one kind: the kind's tag, the number, and the field at fault or 0
-abbrev pub refused_at : Code → ℕ → ℕ → ℕ → Refusal
-refused_at code tag number field =
-    record { code = code; tag = tag; number = number; field = field; byte = 0; depth = 0 }
+-- a refusal that carries its code alone
+abbrev pub code_only : Code → Refusal
+code_only code = record { code = code; tag = 0; number = 0; field = 0; byte = 0; depth = 0 }
 
 -- which of its values a refusal may carry; the others are 0
 pub record Carried : Type 0 where
@@ -31,34 +30,29 @@ pub record Carried : Type 0 where
   pub byte : Bool
   pub depth : Bool
 
-abbrev carrying : Bool → Bool → Bool → Bool → Bool → Carried
-carrying tag number field byte depth =
-    record { tag = tag; number = number; field = field; byte = byte; depth = depth }
-
---                          tag   number field byte depth
 abbrev pub carried : Code → Carried
-carried NumberOutside = carrying true true false true false
-carried FieldOutside = carrying true true true true false
-carried AlreadyOpen = carrying true true false false false
-carried AlreadyWithdrawn = carrying true true false false false
-carried NotFiled = carrying true true false false false
-carried CutShort = carrying true false false true false
-carried Strange = carrying true false false true false
-carried NotRising = carrying true true false true false
-carried Clash = carrying true true false true false
-carried PriceFault = carrying true true false false true
-carried NoRoom = carrying false false false false false
-carried StepsOutside = carrying false false false false false
+carried NumberOutside = record { tag = true; number = true; field = false; byte = true; depth = false }
+carried FieldOutside = record { tag = true; number = true; field = true; byte = true; depth = false }
+carried AlreadyOpen = record { tag = true; number = true; field = false; byte = false; depth = false }
+carried AlreadyWithdrawn = record { tag = true; number = true; field = false; byte = false; depth = false }
+carried NotFiled = record { tag = true; number = true; field = false; byte = false; depth = false }
+carried CutShort = record { tag = true; number = false; field = false; byte = true; depth = false }
+carried Strange = record { tag = true; number = false; field = false; byte = true; depth = false }
+carried NotRising = record { tag = true; number = true; field = false; byte = true; depth = false }
+carried Clash = record { tag = true; number = true; field = false; byte = true; depth = false }
+carried PriceFault = record { tag = true; number = true; field = false; byte = false; depth = true }
+carried NoRoom = record { tag = false; number = false; field = false; byte = false; depth = false }
+carried StepsOutside = record { tag = false; number = false; field = false; byte = false; depth = false }
 
 -- a value that is not carried is 0
-abbrev Kept : Bool → ℕ → Type 0
-Kept true n = Unit {0}
-Kept false n = n ≡ 0
+abbrev ZeroUnless : Bool → ℕ → Type 0
+ZeroUnless true n = Unit {0}
+ZeroUnless false n = n ≡ 0
 
 -- a refusal carries no more than its code does
 pub record Carries (r : Refusal) : Type 0 where
-  pub tag : Kept (carried r.code).tag r.tag
-  pub number : Kept (carried r.code).number r.number
-  pub field : Kept (carried r.code).field r.field
-  pub byte : Kept (carried r.code).byte r.byte
-  pub depth : Kept (carried r.code).depth r.depth
+  pub tag : ZeroUnless (carried r.code).tag r.tag
+  pub number : ZeroUnless (carried r.code).number r.number
+  pub field : ZeroUnless (carried r.code).field r.field
+  pub byte : ZeroUnless (carried r.code).byte r.byte
+  pub depth : ZeroUnless (carried r.code).depth r.depth

@@ -1,18 +1,17 @@
 -- What filing and withdrawing do to the entries of one register, of whatever kind. Assumes nothing.
-use Rattle.std.specs.Prelude.{◌≡◌, ℕ, ◌+◌, ◌-◌, min, Bool, true, false, cond, ◌⊎◌, List, length, Some, None, Option, Ok, Err, Result, ◌==◌, ◌≢◌, slice_index_or, slice_set}
+use Rattle.std.specs.Prelude.{◌≡◌, ℕ, ◌+◌, ◌-◌, min, Bool, true, false, ◌⊎◌, List, length, Some, None, Option, Ok, Err, Result, ◌==◌, ◌≢◌, slice_index_or, slice_set, if◌then◌else◌}
 use Rattle.offers.specs.declared.refusals.Code.{Code}
 use Rattle.offers.specs.declared.refusals.Code.TheVariants.{NumberOutside, FieldOutside, AlreadyOpen, AlreadyWithdrawn, NotFiled}
 use Rattle.offers.specs.declared.refusals.Refusal.{Refusal}
 use Rattle.offers.specs.declared.registers.Entry.{Entry}
 use Rattle.offers.specs.declared.registers.Entry.TheVariants.{Vacant, Open, Withdrawn}
-use Rattle.offers.specs.Refusals.{refused_at}
 use Rattle.offers.specs.Fields.{within}
 use Rattle.offers.specs.Layouts.{Layout, fault_of}
 
 -- What one call answers, and what it leaves.
 pub record Outcome (A : Type 0) : Type 0 where
   pub answer : Result Unit Refusal
-  pub left : A
+  pub after : A
 
 -- whether nothing stands there
 abbrev pub is_vacant : {R : Type 0} → Entry R → Bool
@@ -30,34 +29,42 @@ numbered k es n = within 1 (min k.count (length es)) n
 
 -- the place of its entry
 abbrev pub place : {R : Type 0} → Layout R → List (Entry R) → ℕ → Option ℕ
-place k es n = cond (numbered k es n) (Some (n - 1)) None
+place k es n = if numbered k es n then Some (n - 1) else None
 
-abbrev pub refuse : {R : Type 0} → Layout R → List (Entry R) → Code → ℕ → ℕ → Outcome (List (Entry R))
-refuse k es code n field = record { answer = Err (refused_at code k.tag n field); left = es }
+-- a refusal of a call on a number of a kind
+abbrev pub refused_number : {R : Type 0} → Layout R → Code → ℕ → Refusal
+refused_number k code n = record { code = code; tag = k.tag; number = n; field = 0; byte = 0; depth = 0 }
+
+-- for a field of the record that comes with it
+abbrev pub refused_field : {R : Type 0} → Layout R → ℕ → (field : ℕ) → Refusal
+refused_field k n field = record { code = FieldOutside; tag = k.tag; number = n; field = field; byte = 0; depth = 0 }
+
+abbrev pub refuse : {R : Type 0} → List (Entry R) → Refusal → Outcome (List (Entry R))
+refuse es refusal = record { answer = Err refusal; after = es }
 
 abbrev pub accept : {R : Type 0} → List (Entry R) → ℕ → Entry R → Outcome (List (Entry R))
-accept es n e = record { answer = Ok tt; left = slice_set es (n - 1) e }
+accept es n e = record { answer = Ok tt; after = slice_set es (n - 1) e }
 
 abbrev pub file_over : {R : Type 0} → Layout R → List (Entry R) → ℕ → R → Entry R → Outcome (List (Entry R))
 file_over k es n r Vacant = accept es n (Open r)
-file_over k es n r (Open old) = refuse k es AlreadyOpen n 0
-file_over k es n r (Withdrawn old) = refuse k es AlreadyWithdrawn n 0
+file_over k es n r (Open old) = refuse es (refused_number k AlreadyOpen n)
+file_over k es n r (Withdrawn old) = refuse es (refused_number k AlreadyWithdrawn n)
 
 -- filing a record: the number, then the record's fields, then what stands there already
 abbrev pub filing : {R : Type 0} → Layout R → List (Entry R) → ℕ → R → Outcome (List (Entry R))
 filing k es n r =
-    cond (numbered k es n)
-    (cond (fault_of k r == 0) (file_over k es n r (entry es n)) (refuse k es FieldOutside n (fault_of k r)))
-    (refuse k es NumberOutside n 0)
+    if numbered k es n
+    then (if fault_of k r == 0 then file_over k es n r (entry es n) else refuse es (refused_field k n (fault_of k r)))
+    else refuse es (refused_number k NumberOutside n)
 
 abbrev pub withdraw_over : {R : Type 0} → Layout R → List (Entry R) → ℕ → Entry R → Outcome (List (Entry R))
-withdraw_over k es n Vacant = refuse k es NotFiled n 0
+withdraw_over k es n Vacant = refuse es (refused_number k NotFiled n)
 withdraw_over k es n (Open r) = accept es n (Withdrawn r)
-withdraw_over k es n (Withdrawn r) = refuse k es AlreadyWithdrawn n 0
+withdraw_over k es n (Withdrawn r) = refuse es (refused_number k AlreadyWithdrawn n)
 
 -- withdrawing a number: the number, then what stands there
 abbrev pub withdrawing : {R : Type 0} → Layout R → List (Entry R) → ℕ → Outcome (List (Entry R))
-withdrawing k es n = cond (numbered k es n) (withdraw_over k es n (entry es n)) (refuse k es NumberOutside n 0)
+withdrawing k es n = if numbered k es n then withdraw_over k es n (entry es n) else refuse es (refused_number k NumberOutside n)
 
 -- One entry later on: from vacant to open to withdrawn, never back, and always with the same record.
 abbrev pub Onward : {R : Type 0} → Entry R → Entry R → Type 0
@@ -76,11 +83,11 @@ pub record Moved {R : Type 0} (before : List (Entry R)) (n : ℕ) (answer : Resu
   pub as_long : length after ≡ length before
 
 -- the first field out of range of a record that an entry holds, 0 where there is none
-abbrev pub held_fault : {R : Type 0} → Layout R → Entry R → ℕ
-held_fault k Vacant = 0
-held_fault k (Open r) = fault_of k r
-held_fault k (Withdrawn r) = fault_of k r
+abbrev pub entry_fault : {R : Type 0} → Layout R → Entry R → ℕ
+entry_fault k Vacant = 0
+entry_fault k (Open r) = fault_of k r
+entry_fault k (Withdrawn r) = fault_of k r
 
 -- every record of a register is in range
 abbrev pub InRange : {R : Type 0} → Layout R → List (Entry R) → Type 0
-InRange k es = (i : ℕ) → held_fault k (slice_index_or es i Vacant) ≡ 0
+InRange k es = (i : ℕ) → entry_fault k (slice_index_or es i Vacant) ≡ 0

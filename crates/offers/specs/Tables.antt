@@ -1,5 +1,5 @@
 -- The five kinds of record, each a table of its fields from the left: bytes, field, least, greatest. Assumes nothing.
-use Rattle.std.specs.Prelude.{cond, not, ◌&&◌, List, [], ◌∷◌, ◌==◌, slice_index}
+use Rattle.std.specs.Prelude.{not, ◌&&◌, List, [], ◌∷◌, ◌==◌, slice_index, if◌then◌else◌}
 use Rattle.offers.specs.Fields.{Field, plain, within}
 use Rattle.offers.specs.Layouts.{Layout}
 use Rattle.offers.specs.declared.records.Package.{Package}
@@ -60,12 +60,12 @@ limit_fields =
     ∷ record {
       width = 1;
       value = λ l. l.zone;
-      allowed = λ l. cond (l.sort == 3) (within 1 4 l.zone) (within 1 16 l.zone);
+      allowed = λ l. if l.sort == 3 then within 1 4 l.zone else within 1 16 l.zone;
     }
     ∷ record {
       width = 4;
       value = λ l. l.amount;
-      allowed = λ l. cond (l.sort == 3) (within 0 100 l.amount) (within 0 1000000000 l.amount);
+      allowed = λ l. if l.sort == 3 then within 0 100 l.amount else within 0 1000000000 l.amount;
     }
     ∷ []
 

@@ -1,4 +1,4 @@
-// A ledger: the entries of one kind, one for each offer number, every record of them in range.
+//! A ledger: the entries of one kind, one for each offer number, every record of them in range.
 ghost use Rattle.std.specs.Prelude.{◌≡◌, length, replicate, ⊤};
 ghost use Rattle.offers.specs.Registers.{InRange};
 ghost use Rattle.offers.specs.declared.registers.Entry.TheVariants.{Vacant};
@@ -7,7 +7,7 @@ use crate::records::Record;
 use crate::registers::Entry;
 use std::alloc::AllocError;
 
-// Number n stands at place n - 1.
+/// Number n stands at place n - 1.
 pub struct Ledger<R: Record, const N: usize> {
     pub entries: [Entry<R>; N],
     ghost whole: { length entries ≡ N },
@@ -29,7 +29,7 @@ impl<R: Record, const N: usize> Clone for Ledger<R, N> {
 }
 
 impl<R: Record, const N: usize> Ledger<R, N> {
-    // Every number is vacant.
+    /// Every number is vacant.
     pub(crate) fn vacant() -> Ledger<R, N>
         requires { N ≡ R.Record.layout.count }
         ensures { result.entries ≡ replicate N Vacant }

@@ -1,10 +1,11 @@
-// All offers of a round: the entries of every kind, held in ledgers.
+//! All offers of a round: the entries of every kind, held in ledgers.
+use crate::kinds::Kind;
 use crate::ledgers::Ledger;
 use crate::records::{Band, Exclusion, Limit, Package, Pair};
+use crate::refusals::Refusal;
+use crate::registers::Register;
 
-mod filings;
-
-// A record of any kind.
+/// A record of any kind.
 #[derive(Clone, Copy, PartialEq, Eq, Debug)]
 pub enum Offer {
     Package(Package),
@@ -14,17 +15,7 @@ pub enum Offer {
     Limit(Limit),
 }
 
-// The kinds of record, by their tags.
-#[derive(Clone, Copy, PartialEq, Eq, Debug)]
-pub enum Kind {
-    Package = 1,
-    Band = 2,
-    Pair = 3,
-    Exclusion = 4,
-    Limit = 5,
-}
-
-// The entries of all kinds.
+/// The entries of all kinds.
 #[derive(Clone, Copy)]
 pub struct Offers {
     pub packages: Ledger<Package, 40>,
@@ -32,4 +23,52 @@ pub struct Offers {
     pub pairs: Ledger<Pair, 64>,
     pub exclusions: Ledger<Exclusion, 64>,
     pub limits: Ledger<Limit, 32>,
+}
+
+impl Offers {
+    ghost use Rattle.std.specs.Prelude.{◌≡◌};
+    ghost use Rattle.offers.specs.Memory.{entries_in, all_vacant, file_offer, withdraw_offer, Kept};
+
+    /// The offers of a round that has none: every number is vacant.
+    pub fn vacant() -> Offers
+        ensures { entries_in result ≡ all_vacant }
+    {
+        Offers {
+            packages: Ledger::vacant(),
+            bands: Ledger::vacant(),
+            pairs: Ledger::vacant(),
+            exclusions: Ledger::vacant(),
+            limits: Ledger::vacant(),
+        }
+    }
+
+    /// Makes a vacant number of the record's kind open.
+    pub fn file(&mut self, number: u8, offer: Offer) -> Result<(), Refusal>
+        ensures answer { result ≡ (file_offer (entries_in self.old) number offer).answer }
+        ensures after { entries_in self.new ≡ (file_offer (entries_in self.old) number offer).after }
+        ensures kept { Kept (entries_in self.old) result (entries_in self.new) }
+    {
+        match offer {
+            Offer::Package(new) => Register(&mut self.packages.entries).file(number, new),
+            Offer::Band(new) => Register(&mut self.bands.entries).file(number, new),
+            Offer::Pair(new) => Register(&mut self.pairs.entries).file(number, new),
+            Offer::Exclusion(new) => Register(&mut self.exclusions.entries).file(number, new),
+            Offer::Limit(new) => Register(&mut self.limits.entries).file(number, new),
+        }
+    }
+
+    /// Makes an open number of a kind withdrawn.
+    pub fn withdraw(&mut self, kind: Kind, number: u8) -> Result<(), Refusal>
+        ensures answer { result ≡ (withdraw_offer (entries_in self.old) kind number).answer }
+        ensures after { entries_in self.new ≡ (withdraw_offer (entries_in self.old) kind number).after }
+        ensures kept { Kept (entries_in self.old) result (entries_in self.new) }
+    {
+        match kind {
+            Kind::Package => Register(&mut self.packages.entries).withdraw(number),
+            Kind::Band => Register(&mut self.bands.entries).withdraw(number),
+            Kind::Pair => Register(&mut self.pairs.entries).withdraw(number),
+            Kind::Exclusion => Register(&mut self.exclusions.entries).withdraw(number),
+            Kind::Limit => Register(&mut self.limits.entries).withdraw(number),
+        }
+    }
 }

@@ -1,14 +1,14 @@
 -- The ranges of the price rules' own numbers, and their refusal. Assumes nothing.
-use Rattle.std.specs.Prelude.{◌≡◌, ℕ, Bool, true, false, ◌&&◌, List, ℤ, pos, negsuc, int_le, Ok, Err, Result}
+use Rattle.std.specs.Prelude.{◌≡◌, ℕ, Bool, true, false, ◌&&◌, List, ℤ, pos, int_le, Ok, Err, Result, neg_ℤ}
 use Rattle.std.specs.List.{list_all}
 use Rattle.offers.specs.declared.refusals.Code.TheVariants.{FieldOutside}
 use Rattle.offers.specs.declared.refusals.Refusal.{Refusal}
 use Rattle.offers.specs.Fields.{within}
-use Rattle.offers.specs.Refusals.{refused_at}
+use Rattle.offers.specs.Refusals.{code_only}
 
 -- a number of a price zone: -1,000 to 1,000 pesos for each MWh
 abbrev pub zone_number : ℤ → Bool
-zone_number n = int_le (negsuc 999) n && int_le n (pos 1000)
+zone_number n = int_le (neg_ℤ (pos 1000)) n && int_le n (pos 1000)
 
 abbrev pub zone_numbers : List ℤ → Bool
 zone_numbers ns = list_all zone_number ns
@@ -19,7 +19,7 @@ currency_rates preference expectation = within 10000 11000 preference && within 
 
 -- a number of a rule out of its range: the code alone
 abbrev pub refused_number : Refusal
-refused_number = refused_at FieldOutside 0 0 0
+refused_number = code_only FieldOutside
 
 -- what a check answers of a rule's numbers: those in range, made into what holds them; others are refused with the code alone
 abbrev pub MadeIf : {X : Type 0} → Result X Refusal → Bool → (X → Type 0) → Type 0

@@ -1,11 +1,15 @@
 -- Prices in pesos, and what each price rule means. Assumes nothing.
-use Rattle.std.specs.Prelude.{ℕ, suc, ◌+◌, ◌-◌, ◌*◌, ◌/◌, ◌%◌, cond, ◌&&◌, List, ℤ, pos, negsuc, ◌+ℤ◌, ◌*ℤ◌, neg_ℤ, ◌≤ℤ◌, Ok, Err, Result, ◌==◌, int_le, slice_index_or}
+use Rattle.std.specs.Prelude.{ℕ, suc, ◌+◌, ◌-◌, ◌*◌, ◌/◌, ◌%◌, ◌&&◌, List, ℤ, pos, negsuc, ◌+ℤ◌, ◌*ℤ◌, neg_ℤ, ◌≤ℤ◌, Ok, Err, Result, ◌==◌, int_le, slice_index_or, if◌then◌else◌}
 use Rattle.offers.specs.declared.records.Package.{Package}
 use Rattle.pricing.specs.declared.rules.Fault.{Fault}
 
+-- a price rule's meaning: one price or fault for each package, by its terms
+abbrev pub Meaning : Type 0
+Meaning = Package → Result ℤ Fault
+
 -- the least and the greatest price
 abbrev pub least : ℤ
-least = negsuc 19999999999
+least = neg_ℤ (pos 20000000000)
 
 abbrev pub greatest : ℤ
 greatest = pos 20000000000
@@ -15,13 +19,17 @@ abbrev pub Bounded : Result ℤ Fault → Type 0
 Bounded (Ok price) = (least ≤ℤ price) × (price ≤ℤ greatest)
 Bounded (Err fault) = Unit {0}
 
+-- each answer of a meaning is
+abbrev pub BoundedRule : Meaning → Type 0
+BoundedRule meaning = (p : Package) → Bounded (meaning p)
+
 -- a price that a rule at some depth came to, or its fault where that lies outside
-abbrev pub checked : ℕ → ℤ → Result ℤ Fault
-checked depth price = cond (int_le least price && int_le price greatest) (Ok price) (Err (record { depth = depth }))
+abbrev pub checked_price : ℕ → ℤ → Result ℤ Fault
+checked_price depth price = if int_le least price && int_le price greatest then Ok price else Err (record { depth = depth })
 
 -- a rule above another: a fault from below passes up unchanged, a price is worked on and checked
 abbrev pub upon : Result ℤ Fault → ℕ → (ℤ → ℤ) → Result ℤ Fault
-upon (Ok price) depth work = checked depth (work price)
+upon (Ok price) depth work = checked_price depth (work price)
 upon (Err fault) depth work = Err fault
 
 -- the depth of a rule above one at a depth: a byte that wraps
@@ -30,7 +38,7 @@ above depth = (depth + 1) % 256
 
 -- the filed rule: what was filed
 abbrev pub filed_price : Package → Result ℤ Fault
-filed_price p = checked 1 (pos p.price)
+filed_price p = checked_price 1 (pos p.price)
 
 -- the place rule: the number of the package's price zone, in pesos for each MWh, times its energy is added
 abbrev pub place_price : List ℤ → ℕ → Result ℤ Fault → Package → Result ℤ Fault
@@ -46,7 +54,7 @@ hundred_millionth (negsuc n) = neg_ℤ (pos (suc n / 100000000))
 abbrev pub currency_price : ℕ → ℕ → ℕ → Result ℤ Fault → Package → Result ℤ Fault
 currency_price preference expectation depth below p =
     upon below depth (λ price.
-    cond (p.dollar == 1) (hundred_millionth (price *ℤ pos (preference * expectation))) price)
+    if p.dollar == 1 then hundred_millionth (price *ℤ pos (preference * expectation)) else price)
 
 -- the round's own stack of price rules, with its rates and the numbers of its zones: currency on place on filed
 abbrev pub stack_price : ℕ → ℕ → List ℤ → Package → Result ℤ Fault

@@ -1,13 +1,13 @@
-// The currency rule: prices in dollars are weighed against those in pesos.
+//! The currency rule: prices in dollars are weighed against those in pesos.
 ghost use Rattle.std.specs.Prelude.{◌≡◌, ℤ, pos, ◌+ℤ◌, ◌*ℤ◌, ◌≤ℤ◌, ◌<ℤ◌};
 ghost use Rattle.pricing.specs.Prices.{currency_price, hundred_millionth, above};
 ghost use Rattle.std.proofs.Common.{rules};
 
 use crate::numbers::Rates;
 use crate::rules::{Fault, PriceRule, checked};
-use offers::records::Package;
+use offers::Package;
 
-// Multiplies the price below of a package in dollars by both rates, and rounds up to a whole peso.
+/// Multiplies the price below of a package in dollars by both rates, and rounds up to a whole peso.
 #[derive(Drop)]
 pub struct Currency<P> {
     pub rates: Rates,
@@ -21,11 +21,11 @@ impl<P: PriceRule> PriceRule for Currency<P> {
 
     ghost bounded = { Prim.search rules };
 
-    fn price(&mut self, package: &Package) -> Result<i64, Fault> {
+    fn price(&mut self, terms: &Package) -> Result<i64, Fault> {
         let depth = self.depth();
-        let below = self.below.price(package)?;
+        let below = self.below.price(terms)?;
         // a mark is 0 or 1, and has no other case that a name would tell apart
-        if package.dollar == 1 {
+        if terms.dollar == 1 {
             checked(depth, round_up(below * self.rates.product()))
         } else {
             checked(depth, below)
@@ -37,7 +37,7 @@ impl<P: PriceRule> PriceRule for Currency<P> {
     }
 }
 
-// A hundred-millionth of a number: the smallest whole number not below it.
+/// A hundred-millionth of a number: the smallest whole number not below it.
 pub fn round_up(number: i64) -> i64
     ensures value { result ≡ hundred_millionth number }
     ensures not_below { number ≤ℤ (pos 100000000 *ℤ result) }

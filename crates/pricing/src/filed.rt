@@ -1,9 +1,9 @@
-// The lowest rule: a package costs what was filed.
+//! The lowest rule: a package costs what was filed.
 ghost use Rattle.pricing.specs.Prices.{filed_price};
 ghost use Rattle.std.proofs.Common.{rules};
 
 use crate::rules::{Fault, PriceRule};
-use offers::records::Package;
+use offers::Package;
 
 #[derive(Clone, Copy)]
 pub struct Filed;
@@ -15,14 +15,14 @@ impl PriceRule for Filed {
 
     ghost bounded = { Prim.search rules };
 
-    fn price(&mut self, package: &Package) -> Result<i64, Fault> {
+    fn price(&mut self, terms: &Package) -> Result<i64, Fault> {
         // unsigned, so the range has one end to test
-        if package.price > 20_000_000_000 {
+        if terms.price > 20_000_000_000 {
             return Err(Fault {
                 depth: self.depth(),
             });
         }
-        Ok(package.price as i64)
+        Ok(terms.price as i64)
     }
 
     fn depth(&self) -> u8 {

@@ -1,12 +1,12 @@
-// The place rule: energy costs more or less by price zone.
+//! The place rule: energy costs more or less by price zone.
 ghost use Rattle.pricing.specs.Prices.{place_price, above};
 ghost use Rattle.std.proofs.Common.{rules};
 
 use crate::numbers::ZoneNumbers;
 use crate::rules::{Fault, PriceRule, checked};
-use offers::records::Package;
+use offers::Package;
 
-// Adds the number of the package's price zone times its energy to the price below.
+/// Adds the number of the package's price zone times its energy to the price below.
 #[derive(Drop)]
 pub struct Place<P> {
     pub numbers: ZoneNumbers,
@@ -20,11 +20,11 @@ impl<P: PriceRule> PriceRule for Place<P> {
 
     ghost bounded = { Prim.search rules };
 
-    fn price(&mut self, package: &Package) -> Result<i64, Fault> {
+    fn price(&mut self, terms: &Package) -> Result<i64, Fault> {
         let depth = self.depth();
-        let below = self.below.price(package)?;
-        let number = self.numbers.of_zone(package.price_zone);
-        checked(depth, below + number * package.energy as i64)
+        let below = self.below.price(terms)?;
+        let number = self.numbers.of_zone(terms.price_zone);
+        checked(depth, below + number * terms.energy as i64)
     }
 
     fn depth(&self) -> u8 {

@@ -1,9 +1,9 @@
-// Readers and writers that fail, to try programs with.
+//! Readers and writers that fail, to try programs with.
 use std::alloc::Global;
 use std::io;
 use std::io::{ErrorKind, Read, Write};
 
-// Gives one byte, the sign of a comment, and then fails.
+/// Gives one byte, the sign of a comment, and then fails.
 #[derive(Drop)]
 pub struct CutOff {
     pub is_cut: bool,
@@ -20,7 +20,7 @@ impl Read for CutOff {
     }
 }
 
-// Takes so many bytes more, which it keeps, and then fails.
+/// Takes so many bytes more, which it keeps, and then fails.
 #[derive(Drop)]
 pub struct Full {
     pub room: usize,

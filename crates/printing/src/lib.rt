@@ -1,7 +1,15 @@
-// What programs print: a text, written at once when all of it is made; and how far a search or a run is, on standard error. And
-// readers and writers that fail, to try programs with.
+//! What programs print: a text, written at once when all of it is made; and how far a search or a run is, on standard error.
 #![tactic(auto)]
 
-pub mod failing;
-pub mod meters;
-pub mod texts;
+mod failing;
+mod meters;
+mod texts;
+
+/// Writes a text whole, or nothing where memory for it is wanting.
+pub use texts::write_text;
+
+/// Says how far a search or a run is.
+pub use meters::Meter;
+
+/// A reader and a writer that fail, to try programs with.
+pub use failing::{CutOff, Full};

@@ -1,8 +1,7 @@
-// How far a search or a run of calls is, said on standard error.
-ghost use Rattle.std.specs.Prelude.{◌≡◌, ◌+◌, ◌<◌, Decides, if◌then◌else◌, ◌==◌};
+//! How far a search or a run of calls is, said on standard error.
+ghost use Rattle.std.specs.Prelude.{◌≡◌, ◌+◌, ◌<◌, if◌then◌else◌, ◌==◌, IsTrue, ◌↔◌};
 
-use rounds::finishing::Progress;
-use rounds::replays::Watch;
+use rounds::{Progress, Watch};
 use std::io::Eprint;
 
 // Of so many notes of a search one is said; a note comes every million steps.
@@ -11,7 +10,7 @@ const SEARCH: u32 = 16;
 // Of so many calls of a run one is said; a call takes a million steps at most.
 const RUN: u32 = 20;
 
-// Counts notes, and says some of them.
+/// Counts notes, and says some of them.
 #[derive(Drop)]
 pub struct Meter<'a, R> {
     rt: &'a R,
@@ -23,7 +22,7 @@ pub struct Meter<'a, R> {
 }
 
 impl<'a, R> Meter<'a, R> {
-    // A meter of a search.
+    /// A meter of a search.
     pub fn of_search(rt: &'a R) -> Meter<'a, R>
         ensures each { result.each ≡ 16 }
         ensures notes { result.notes ≡ 0 }
@@ -35,7 +34,7 @@ impl<'a, R> Meter<'a, R> {
         }
     }
 
-    // A meter of a run of calls.
+    /// A meter of a run of calls.
     pub fn of_run(rt: &'a R) -> Meter<'a, R>
         ensures each { result.each ≡ 20 }
         ensures notes { result.notes ≡ 0 }
@@ -50,7 +49,7 @@ impl<'a, R> Meter<'a, R> {
     // Counts a note, and answers whether it is due to be said: whether it is the last of its so many.
     fn is_due(&mut self) -> bool
         ensures each { self.new.each ≡ self.old.each }
-        ensures due { Decides result (self.old.notes + 1 ≡ self.old.each) }
+        ensures due { IsTrue result ↔ (self.old.notes + 1 ≡ self.old.each) }
         ensures notes { self.new.notes ≡ if result then 0 else self.old.notes + 1 }
     {
         let due = self.notes + 1 == self.each;

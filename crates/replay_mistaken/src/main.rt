@@ -1,9 +1,9 @@
-// Reads a journal from standard input, makes its calls, and prints the answers.
+//! Reads a journal from standard input, makes its calls, and prints the answers.
 #![tactic(auto)]
 
 use anyhow::bail;
-use journals::running::run_journal;
-use printing::meters::Meter;
+use journals::run_journal;
+use printing::Meter;
 
 fn main(rt: HostRuntime) -> anyhow::Result<()> {
     let mut meter = Meter::of_run(&rt);

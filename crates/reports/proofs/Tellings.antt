@@ -8,7 +8,7 @@ use Rattle.clearing.specs.Lawful.{View, view, surplus, filled_sales}
 use Rattle.bounds.specs.Blocks.{Answers}
 use Rattle.search.specs.Search.{Standing, standing}
 use Rattle.rounds.specs.declared.awarded_round.AwardedRound.{AwardedRound}
-use Rattle.rounds.specs.Model.{Search, Done, beginning, sold_row}
+use Rattle.rounds.specs.Model.{Search, Done, open_and_vacant, sold_row}
 use Rattle.rounds.specs.Promises.{OfAward}
 use Rattle.reports.specs.declared.report.Report.{Report}
 use Rattle.reports.specs.declared.report.Sold.{Sold}
@@ -46,7 +46,7 @@ filed_bounded : (p : Package) → Bounded (filed_price p)
 filed_bounded p = search rules
 
 -- The text of the report of a round that a sheet is cleared to answers the sheet.
-pub awarded_answers : (rule : Answers) (sheet : List ℕ) (round : AwardedRound) (report : Report) → Cleared rule beginning sheet round → Reports (view round.docket) (standing round.at) report
+pub awarded_answers : (rule : Answers) (sheet : List ℕ) (round : AwardedRound) (report : Report) → Cleared rule open_and_vacant sheet round → Reports (view round.docket) (standing round.at) report
     → AnswersSheet sheet false (report_text report)
 awarded_answers rule sheet round report cleared reports =
     let v = view round.docket in
@@ -58,6 +58,6 @@ awarded_answers rule sheet round report cleared reports =
     (refl, record { choice = at.leader; best = award.award.best; so = told v at report reports award.award.worth award.sales })
 
 -- And so does the text of the refusal of one that is not cleared.
-pub refused_answers : (sheet : List ℕ) (why : Refusal) → NotCleared beginning sheet why → AnswersSheet sheet true (refused_text (record { 0 = why }))
+pub refused_answers : (sheet : List ℕ) (why : Refusal) → NotCleared open_and_vacant sheet why → AnswersSheet sheet true (refused_text (record { 0 = why }))
 refused_answers sheet why refused =
     subst (λ (r : Result View Refusal). AnswersDocket r true (refused_text (record { 0 = why }))) (sym (refused_of sheet why refused)) (refl, refl)

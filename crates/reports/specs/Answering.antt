@@ -2,7 +2,7 @@
 use Rattle.std.specs.Prelude.{◌≡◌, ℕ, ◌≤◌, Bool, true, false, List, length, take, Ok, Err, Result, Option, IfSome}
 use Rattle.std.specs.Io.KnownBytes.{Appends}
 use Rattle.offers.specs.declared.refusals.Refusal.{Refusal}
-use Rattle.offers.specs.Memory.{Entries, vacant}
+use Rattle.offers.specs.Memory.{Entries, all_vacant}
 use Rattle.offers.specs.Registers.{Outcome}
 use Rattle.sheets.specs.Reading.{catch_up, and_then}
 use Rattle.pricing.specs.Prices.{filed_price}
@@ -17,11 +17,11 @@ closed_docket (Err why) docket = Err why
 
 -- the docket of offers at their prices as filed
 abbrev pub filed_docket : Entries → Result View Refusal
-filed_docket all = let o : Outcome View = closing nothing_open all filed_price in closed_docket o.answer o.left
+filed_docket all = let o : Outcome View = closing nothing_open all filed_price in closed_docket o.answer o.after
 
 -- the docket of a sheet: of what is open once a vacant round has caught up with it; or why the sheet is refused
 abbrev pub sheet_docket : List ℕ → Result View Refusal
-sheet_docket sheet = and_then (catch_up vacant sheet) filed_docket
+sheet_docket sheet = and_then (catch_up all_vacant sheet) filed_docket
 
 -- A text tells the award of a docket, the best of its choices.
 pub record TellsAward (docket : View) (text : List ℕ) : Type 0 where

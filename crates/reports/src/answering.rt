@@ -1,4 +1,4 @@
-// A sheet's whole way: its bytes are read, its round is cleared, and the text of its award or its refusal is written.
+//! A sheet's whole way: its bytes are read, its round is cleared, and the text of its award or its refusal is written.
 ghost use Rattle.std.specs.Prelude.{◌≡◌, ◌≤◌, IfOk, IfSome, MatchResult, take, vec_len};
 ghost use Rattle.rounds.specs.Views.{of_open};
 ghost use Rattle.reports.specs.Answering.{Answered};
@@ -7,12 +7,10 @@ ghost use Rattle.reports.specs.Searching.{searching};
 
 use crate::report::{RefusedSheet, Report};
 use crate::searching::Rules;
-use offers::refusals::Refusal;
-use pricing::filed::Filed;
-use printing::texts::write_text;
-use rounds::awarded_round::AwardedRound;
-use rounds::finishing::{Progress, finish};
-use rounds::open_round::OpenRound;
+use offers::Refusal;
+use pricing::Filed;
+use printing::write_text;
+use rounds::{AwardedRound, OpenRound, Progress, finish};
 use std::alloc::Global;
 use std::io;
 use std::io::{Read, Write};
@@ -20,8 +18,8 @@ use std::io::{Read, Write};
 // The most bytes of a sheet that are read.
 const MOST: usize = 4096;
 
-// Reads a sheet of at most 4,096 bytes, clears its round, searching by these rules, and writes the text of its award or its refusal,
-// which is the same by any. Answers whether the sheet was refused. Nothing is written before the whole text is made.
+/// Reads a sheet of at most 4,096 bytes, clears its round, searching by these rules, and writes the text of its award or its refusal,
+/// which is the same by any. Answers whether the sheet was refused. Nothing is written before the whole text is made.
 pub fn answer_sheet<R: Read + Drop, W: Write, P: Progress>(
     heap: Global,
     input: R,
@@ -35,7 +33,7 @@ pub fn answer_sheet<R: Read + Drop, W: Write, P: Progress>(
     let round = OpenRound::new(heap)?;
     match clear(round, &sheet, rules, progress) {
         Ok(awarded) => {
-            let report = Report::of(heap, &awarded)?;
+            let report = Report::new(heap, &awarded)?;
             write_text(heap, &report, output)?;
             Ok(false)
         }
@@ -78,7 +76,7 @@ fn clear<P: Progress>(
 #[cfg(test)]
 mod tests {
     use super::*;
-    use printing::failing::{CutOff, Full};
+    use printing::{CutOff, Full};
     use std::io::ErrorKind;
     use std::test::*;
 

@@ -1,4 +1,4 @@
-// The report of an award, and what is printed of it or of a refused sheet.
+//! The report of an award, and what is printed of it or of a refused sheet.
 ghost use Rattle.std.specs.Prelude.{◌≡◌, ◌∷◌, length, map, IfOk, Some};
 ghost use Rattle.clearing.specs.Choices.{taken};
 ghost use Rattle.clearing.specs.Lawful.{view};
@@ -6,21 +6,21 @@ ghost use Rattle.rounds.specs.Views.{of_awarded};
 ghost use Rattle.reports.specs.Reports.{ReportsIn, sold_line};
 ghost use Rattle.reports.specs.Text.{report_text, refused_text};
 
-use clearing::dockets::Docket;
-use offers::refusals::Refusal;
-use rounds::awarded_round::AwardedRound;
-use search::steps::choices;
+use clearing::Docket;
+use offers::Refusal;
+use rounds::AwardedRound;
+use search::choices;
 use std::alloc::{AllocError, Global};
 use std::fmt;
 
-// What an open band is sold, by offer number, in its market's unit.
+/// What an open band is sold, by offer number, in its market's unit.
 #[derive(Clone, Copy, PartialEq, Eq, Debug)]
 pub struct Sold {
     pub band: u8,
     pub quantity: u64,
 }
 
-// An award in words: what was open, what is taken and sold, each by rising number, and the surplus in pesos.
+/// An award in words: what was open, what is taken and sold, each by rising number, and the surplus in pesos.
 #[derive(Drop)]
 pub struct Report {
     pub open: usize,
@@ -30,13 +30,13 @@ pub struct Report {
     pub surplus: i64,
 }
 
-// Why a sheet has no award.
+/// Why a sheet has no award.
 #[derive(Clone, Copy)]
 pub struct RefusedSheet(pub Refusal);
 
 impl Report {
-    // The report of an awarded round.
-    pub fn of(heap: Global, round: &AwardedRound) -> Result<Report, AllocError>
+    /// The report of an awarded round.
+    pub fn new(heap: Global, round: &AwardedRound) -> Result<Report, AllocError>
         ensures { IfOk result (ReportsIn (of_awarded round.now).state) }
     {
         let mut sold = [0u64; 64];

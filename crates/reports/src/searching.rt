@@ -1,20 +1,15 @@
-// By which bounding rules the round of a sheet is searched. The award is the same by any.
+//! By which bounding rules the round of a sheet is searched. The award is the same by any.
 ghost use Rattle.reports.specs.Searching.{searching};
 ghost use Rattle.reports.specs.Searches.{searching-sound};
 
-use bounds::all_in::AllIn;
-use bounds::blocks::{Block, BoundingRule};
-use bounds::joined::Joined;
-use bounds::limits::Limits;
-use bounds::shares::Shares;
-use bounds::tangent::Tangent;
-use clearing::dockets::Docket;
+use bounds::{AllIn, Block, BoundingRule, Joined, Limits, Shares, Tangent};
+use clearing::Docket;
 
 #[derive(Clone, Copy, PartialEq, Eq, Debug)]
 pub enum Rules {
-    // limits and all-in joined
+    /// limits and all-in joined
     Stated,
-    // limits, all-in, shares and tangent joined
+    /// limits, all-in, shares and tangent joined
     Quick,
 }
 

@@ -1,19 +1,20 @@
 -- Runs with one call more: what they leave, what was accepted in them, and which closing was the last.
 use Rattle.std.proofs.Common.{◌≡◌, Bool, true, false, ◌&&◌, ◌||◌, List, [], ◌∷◌, ◌++◌, Ok, sym, refl, ap, ◌∙◌, append_assoc}
-use Rattle.clearing.specs.Closing.{Meaning, closing}
+use Rattle.clearing.specs.Closing.{closing}
+use Rattle.pricing.specs.Prices.{Meaning}
 use Rattle.clearing.specs.Lawful.{View, nothing_open}
 use Rattle.clearing.proofs.OpenDockets.{closing_open}
-use Rattle.rounds.specs.Model.{Call, Close, IsOpen, Model, accepted, step, beginning, after_from, after, some_accepted}
+use Rattle.rounds.specs.Model.{Call, Close, IsOpen, Model, accepted, step, open_and_vacant, after_from, after, some_accepted}
 use Rattle.rounds.specs.Promises.{closes, LastClosing}
 
 -- a run and then another
 pub after_append : (m : Model) (xs ys : List Call) → after_from m (xs ++ ys) ≡ after_from (after_from m xs) ys
 after_append m [] ys = refl
-after_append m (x ∷ xs) ys = after_append (step m x).left xs ys
+after_append m (x ∷ xs) ys = after_append (step m x).after xs ys
 
 -- what one call more leaves
-pub after_more : (calls : List Call) (call : Call) → after (calls ++ call ∷ []) ≡ (step (after calls) call).left
-after_more calls call = after_append beginning calls (call ∷ [])
+pub after_more : (calls : List Call) (call : Call) → after (calls ++ call ∷ []) ≡ (step (after calls) call).after
+after_more calls call = after_append open_and_vacant calls (call ∷ [])
 
 or_assoc : (x y z : Bool) → ((x || y) || z) ≡ (x || (y || z))
 or_assoc true y z = refl
@@ -28,13 +29,13 @@ pub some_more : (test : Call → Bool) (m : Model) (calls : List Call) (call : C
     → some_accepted test m (calls ++ call ∷ []) ≡ (some_accepted test m calls || (test call && accepted (step (after_from m calls) call).answer))
 some_more test m [] call = or_false (test call && accepted (step m call).answer)
 some_more test m (x ∷ xs) call =
-    ap (λ b. (test x && accepted (step m x).answer) || b) (some_more test (step m x).left xs call)
+    ap (λ b. (test x && accepted (step m x).answer) || b) (some_more test (step m x).after xs call)
     ∙ sym (or_assoc (test x && accepted (step m x).answer) _ _)
 
 -- what a closing and the calls after it leave
 pub since_closing : (before later : List Call) (price : Meaning) → after_from (after (before ++ Close price ∷ [])) later ≡ after (before ++ Close price ∷ later)
 since_closing before later price =
-    sym (after_append beginning (before ++ Close price ∷ []) later) ∙ ap after (append_assoc before (Close price ∷ []) later)
+    sym (after_append open_and_vacant (before ++ Close price ∷ []) later) ∙ ap after (append_assoc before (Close price ∷ []) later)
 
 pub neither : (x y : Bool) → x ≡ false → y ≡ false → (x || y) ≡ false
 neither x y e f = rw e f
@@ -57,7 +58,7 @@ closing_more calls v was call none = record {
 
 -- a closing that is accepted is the last
 abbrev pub closing_now : (calls : List Call) (v : View) (price : Meaning) → (after calls).state ≡ IsOpen
-    → closing nothing_open (after calls).entries price ≡ record { answer = Ok tt; left = v } → LastClosing (calls ++ Close price ∷ []) v
+    → closing nothing_open (after calls).entries price ≡ record { answer = Ok tt; after = v } → LastClosing (calls ++ Close price ∷ []) v
 closing_now calls v price is-open made = record {
   before = calls;
   price = price;

@@ -6,20 +6,21 @@ use Rattle.offers.specs.declared.records.Package.{Package}
 use Rattle.offers.specs.declared.refusals.Code.TheVariants.{NoRoom, StepsOutside}
 use Rattle.offers.specs.declared.refusals.Refusal.{Refusal}
 use Rattle.offers.specs.Fields.{within}
-use Rattle.offers.specs.declared.memory.Kind.{Kind}
+use Rattle.offers.specs.declared.kinds.Kind.{Kind}
 use Rattle.offers.specs.declared.registers.Entry.TheVariants.{Vacant}
 use Rattle.offers.specs.Memory.{Entries, entries_of, file_offer, withdraw_offer}
-use Rattle.offers.specs.Refusals.{Carries, refused_at}
+use Rattle.offers.specs.Refusals.{Carries, code_only}
 use Rattle.offers.specs.Registers.{Onward}
 use Rattle.offers.proofs.RegisterLaws.{onward-same}
 use Rattle.offers.proofs.MemoryLaws.{file_kept, withdraw_kept}
 use Rattle.sheets.specs.Reading.{catching_up}
-use Rattle.sheets.specs.Writing.{Written as WrittenSheet, sheet_of}
+use Rattle.sheets.specs.Writing.{WrittenSheet, sheet_of}
 use Rattle.sheets.proofs.CatchUps.{caught_up}
 use Rattle.clearing.specs.declared.dockets.PricedPackage.{PricedPackage}
 use Rattle.pricing.specs.declared.rules.Fault.{Fault}
 use Rattle.clearing.specs.Bands.{Numbered}
-use Rattle.clearing.specs.Closing.{Meaning, open_from, priced, priced_as, no_price, closed_with}
+use Rattle.clearing.specs.Closing.{open_from, priced, priced_as, no_price, closed_with}
+use Rattle.pricing.specs.Prices.{Meaning}
 use Rattle.clearing.specs.Lawful.{View, nothing_open}
 use Rattle.search.specs.Search.{Standing}
 use Rattle.rounds.specs.Model.{Call, File, Withdraw, CatchUp, Close, Search, Reopen, ReadAward, WriteSheet, Done, Reopened, Written, NotTaken, State, IsOpen, IsClosed, IsAwarded, Model, model, Stepped, accepted, told, closed, written, step_in, step}
@@ -33,7 +34,7 @@ still : (all : Entries) → GoesOn all all
 still all k i = onward-same (get_or (entries_of all k) i Vacant)
 
 -- an accepted call owes nothing more
-accepted_keeps : (m : Model) (call : Call) (s : Stepped) → GoesOn m.entries s.left.entries → accepted s.answer ≡ true → refusal_in s.answer ≡ None → Keeps m call s
+accepted_keeps : (m : Model) (call : Call) (s : Stepped) → GoesOn m.entries s.after.entries → accepted s.answer ≡ true → refusal_in s.answer ≡ None → Keeps m call s
 accepted_keeps m call s on taken none = record {
   onward = on;
   unchanged = λ no. absurd (true≢false (sym taken ∙ no));
@@ -51,7 +52,7 @@ not_taken all s call = record {
 }
 
 -- a refusal that leaves round and loan, and carries what its code does
-refused_keeps : (m : Model) (call : Call) (s : Stepped) (why : Refusal) → s.left ≡ m → refusal_in s.answer ≡ Some why → lent_back s.answer ≡ lent_with call → Carries why → Keeps m call s
+refused_keeps : (m : Model) (call : Call) (s : Stepped) (why : Refusal) → s.after ≡ m → refusal_in s.answer ≡ Some why → lent_back s.answer ≡ lent_with call → Carries why → Keeps m call s
 refused_keeps m call s why same is back carried = record {
   onward = subst (λ (left : Model). GoesOn m.entries left.entries) (sym same) (still m.entries);
   unchanged = λ no. same;
@@ -62,7 +63,7 @@ refused_keeps m call s why same is back carried = record {
 -- filing, withdrawing and catching up
 entered_keeps : (all left : Entries) (call : Call) (r : Result Unit Refusal) → lent_with call ≡ [] → GoesOn all left
     → ((e : Refusal) → r ≡ Err e → left ≡ all) → ((e : Refusal) → r ≡ Err e → Carries e)
-    → Keeps (model all IsOpen) call (record { left = model left IsOpen; answer = Done r })
+    → Keeps (model all IsOpen) call (record { after = model left IsOpen; answer = Done r })
 entered_keeps all left call (Ok done) none on same carries = accepted_keeps _ call _ on refl refl
 entered_keeps all left call (Err why) none on same carries =
     refused_keeps _ call _ why (ap (λ (es : Entries). model es IsOpen) (same why refl)) refl (sym none) (carries why refl)
@@ -73,7 +74,7 @@ priced_carries price [] why e = absurd (no_refusal e)
   where
     no_refusal : ◌≡◌ {A = Result (List PricedPackage) Refusal} (Ok []) (Err why) → ⊥
     no_refusal e = cc
-priced_carries price (p ∷ ps) why e = by (price p.of) (priced price ps) (priced_carries price ps why) e
+priced_carries price (p ∷ ps) why e = by (price p.terms) (priced price ps) (priced_carries price ps why) e
   where
     by : (answer : Result ℤ Fault) (rest : Result (List PricedPackage) Refusal) → (rest ≡ Err why → Carries why) → priced_as p answer rest ≡ Err why → Carries why
     by (Ok one) (Ok others) on e = absurd (let no : ⊥ = cc in no)
@@ -89,14 +90,14 @@ closed_keeps all price (Ok ps) e = accepted_keeps _ (Close price) _ (still all) 
 closed_keeps all price (Err why) e = refused_keeps _ (Close price) _ why refl refl refl (priced_carries price (open_from 1 all.packages) why e)
 
 -- a refusal with nothing but its code
-bare : (s : Stepped) (m : Model) (call : Call) → s.left ≡ m → refusal_in s.answer ≡ Some (refused_at NoRoom 0 0 0) → lent_back s.answer ≡ lent_with call → Keeps m call s
-bare s m call same is lent = refused_keeps m call s (refused_at NoRoom 0 0 0) same is lent (record { tag = refl; number = refl; field = refl; byte = refl; depth = refl })
+bare : (s : Stepped) (m : Model) (call : Call) → s.after ≡ m → refusal_in s.answer ≡ Some (code_only NoRoom) → lent_back s.answer ≡ lent_with call → Keeps m call s
+bare s m call same is lent = refused_keeps m call s (code_only NoRoom) same is lent (record { tag = refl; number = refl; field = refl; byte = refl; depth = refl })
 
 searched_keeps : (all : Entries) (v : View) (at : Standing) (rule : _) (count : ℕ) → Keeps (model all (IsClosed v at)) (Search rule count) (step_in all (IsClosed v at) (Search rule count))
 searched_keeps all v at rule count =
     cond_both (within 1 1000000 count) _ _ (Keeps (model all (IsClosed v at)) (Search rule count))
     (λ _. accepted_keeps _ (Search rule count) _ (still all) refl refl)
-    (λ _. refused_keeps _ (Search rule count) _ (refused_at StepsOutside 0 0 0) refl refl refl (record { tag = refl; number = refl; field = refl; byte = refl; depth = refl }))
+    (λ _. refused_keeps _ (Search rule count) _ (code_only StepsOutside) refl refl refl (record { tag = refl; number = refl; field = refl; byte = refl; depth = refl }))
 
 awarded_keeps : (all : Entries) (v : View) (at : Standing) (lent : List ℕ) → Keeps (model all (IsAwarded v at)) (ReadAward lent) (step_in all (IsAwarded v at) (ReadAward lent))
 awarded_keeps all v at lent =
@@ -112,9 +113,9 @@ written_keeps all s buffer =
 
 -- whatever the state
 keeps_in : (all : Entries) (s : State) (call : Call) → Keeps (model all s) call (step_in all s call)
-keeps_in all IsOpen (File n x) = let k = file_kept all n x in entered_keeps all (file_offer all n x).left (File n x) (file_offer all n x).answer refl k.onward k.unchanged k.carries
-keeps_in all IsOpen (Withdraw kind n) = let k = withdraw_kept all kind n in entered_keeps all (withdraw_offer all kind n).left (Withdraw kind n) (withdraw_offer all kind n).answer refl k.onward k.unchanged k.carries
-keeps_in all IsOpen (CatchUp sheet) = let k = caught_up all sheet in entered_keeps all (catching_up all sheet).left (CatchUp sheet) (catching_up all sheet).answer refl k.onward k.unchanged k.carries
+keeps_in all IsOpen (File n x) = let k = file_kept all n x in entered_keeps all (file_offer all n x).after (File n x) (file_offer all n x).answer refl k.onward k.unchanged k.carries
+keeps_in all IsOpen (Withdraw kind n) = let k = withdraw_kept all kind n in entered_keeps all (withdraw_offer all kind n).after (Withdraw kind n) (withdraw_offer all kind n).answer refl k.onward k.unchanged k.carries
+keeps_in all IsOpen (CatchUp sheet) = let k = caught_up all sheet in entered_keeps all (catching_up all sheet).after (CatchUp sheet) (catching_up all sheet).answer refl k.onward k.unchanged k.carries
 keeps_in all IsOpen (Close price) = closed_keeps all price (priced price (open_from 1 all.packages)) refl
 keeps_in all IsOpen (Search rule count) = not_taken all IsOpen (Search rule count)
 keeps_in all IsOpen Reopen = not_taken all IsOpen Reopen

@@ -2,13 +2,12 @@
 use Rattle.std.proofs.Common.{◌≡◌, ℕ, zero, suc, List, [], ◌∷◌, ◌++◌, map, replicate, sym, ap, ◌∙◌, subst}
 use Rattle.std.specs.List.{AllByRecursion as Every}
 use Rattle.offers.specs.declared.records.Package.{Package}
-use Rattle.pricing.specs.Prices.{Bounded}
-use Rattle.clearing.specs.Closing.{Meaning}
+use Rattle.pricing.specs.Prices.{Bounded, Meaning}
 use Rattle.bounds.specs.Blocks.{Answers, SoundRule}
 use Rattle.rounds.specs.declared.requests.Request.{Request}
 use Rattle.rounds.specs.declared.requests.Request.TheVariants as request
 use Rattle.rounds.specs.Requests.{call_of}
-use Rattle.rounds.specs.Model.{beginning, after_from, after, Stepped, Call, Model, step}
+use Rattle.rounds.specs.Model.{open_and_vacant, after_from, after, Stepped, Call, Model, step}
 use Rattle.rounds.specs.Promises.{LawfulCall, Promise, Promised, Keeps}
 use Rattle.rounds.specs.Views.{Continues, Serves}
 use Rattle.rounds.proofs.Histories.{after_append, after_more}
@@ -23,11 +22,11 @@ lawful_append (x ∷ xs) ys laws more = (laws.0, lawful_append xs ys laws.1 more
 continues : (before : Model) (call : Call) (s : Stepped) → LawfulCall call → s ≡ step before call → Continues before call s
 continues before call s law e calls laws at =
     let same : s ≡ step (after calls) call = e ∙ sym (ap (λ (m : Model). step m call) at) in
-    let left : s.left ≡ after (calls ++ call ∷ []) = ap (λ (x : Stepped). x.left) same ∙ sym (after_more calls call) in
+    let round : s.after ≡ after (calls ++ call ∷ []) = ap (λ (x : Stepped). x.after) same ∙ sym (after_more calls call) in
     record {
-      left = left;
+      round = round;
       answer = ap (λ (x : Stepped). x.answer) same;
-      promise = subst (Promise (calls ++ call ∷ [])) (sym left) (promised (calls ++ call ∷ []) (lawful_append calls (call ∷ []) laws (law, tt)));
+      promise = subst (Promise (calls ++ call ∷ [])) (sym round) (promised (calls ++ call ∷ []) (lawful_append calls (call ∷ []) laws (law, tt)));
     }
 
 -- and so it owes nothing more
@@ -43,7 +42,7 @@ pub promised_again : (before : Model) (call : Call) (n : ℕ) (left : Model) →
     → (calls : List Call) → Every LawfulCall calls → after calls ≡ before → Promise (calls ++ replicate n call) left
 promised_again before call n left law is calls laws led =
     let more = replicate n call in
-    let same : left ≡ after (calls ++ more) = is ∙ sym (ap (λ (m : Model). after_from m more) led) ∙ sym (after_append beginning calls more) in
+    let same : left ≡ after (calls ++ more) = is ∙ sym (ap (λ (m : Model). after_from m more) led) ∙ sym (after_append open_and_vacant calls more) in
     subst (Promise (calls ++ more)) (sym same) (promised (calls ++ more) (lawful_append calls more laws (lawful_again call n law)))
 
 module _ {P B : Type 0} (meaning : P → Meaning) (answers : B → Answers) (bounded : (rule : P) (p : Package) → Bounded (meaning rule p)) (sound : (rule : B) → SoundRule (answers rule)) where

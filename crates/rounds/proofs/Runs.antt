@@ -3,8 +3,8 @@ use Rattle.std.proofs.Common.{◌≡◌, ℕ, zero, suc, ◌+◌, ◌-◌, ◌�
 use Rattle.std.proofs.lemmas.Grind.{get_or-set_at}
 use Rattle.std.specs.List.{AllByRecursion as Every}
 use Rattle.std.proofs.lemmas.Bool.{cond_both, eqb-true, and_parts, or_cases, true≢false}
-use Rattle.offers.specs.declared.memory.Kind.{Kind}
-use Rattle.offers.specs.declared.memory.Kind.TheVariants as kind
+use Rattle.offers.specs.declared.kinds.Kind.{Kind}
+use Rattle.offers.specs.declared.kinds.Kind.TheVariants as kind
 use Rattle.offers.specs.declared.memory.Offer.{Offer}
 use Rattle.offers.specs.declared.records.Package.{Package}
 use Rattle.offers.specs.declared.refusals.Refusal.{Refusal}
@@ -16,20 +16,20 @@ use Rattle.offers.specs.Memory.{Entries, Sound, layout_of, file_offer, withdraw_
 use Rattle.offers.specs.Registers.{Outcome, Onward, entry, numbered, withdrawing, withdraw_over}
 use Rattle.offers.proofs.MemoryLaws.{file_kept, withdraw_kept}
 use Rattle.offers.proofs.RegisterLaws.{inside}
-use Rattle.pricing.specs.Prices.{Bounded}
+use Rattle.pricing.specs.Prices.{Bounded, Meaning}
 use Rattle.sheets.specs.Laws.{is_withdrawn, withdrawn_at}
 use Rattle.sheets.specs.Reading.{catching_up}
 use Rattle.sheets.proofs.CatchUps.{caught_up}
 use Rattle.clearing.specs.declared.dockets.PricedPackage.{PricedPackage}
 use Rattle.clearing.specs.Choices.{has_number}
-use Rattle.clearing.specs.Closing.{Meaning, open_from, priced, docket_with, closing, ByClosing}
+use Rattle.clearing.specs.Closing.{open_from, priced, docket_with, closing, ByClosing}
 use Rattle.clearing.specs.Lawful.{View, nothing_open, choices}
 use Rattle.clearing.proofs.ClosedRanges.{ranged-closing}
 use Rattle.bounds.specs.Blocks.{SoundRule}
-use Rattle.search.specs.Search.{Standing, Placed, Leading, Leads, finished, steps}
+use Rattle.search.specs.Search.{Standing, Placed, Leading, Leads, finished, after_steps}
 use Rattle.search.proofs.Placings.{start-placed}
 use Rattle.search.proofs.Leadings.{start-leads}
-use Rattle.rounds.specs.Model.{NotTaken, Reopened, told, award, written, Call, File, Withdraw, CatchUp, Close, Search, Reopen, ReadAward, WriteSheet, Answer, State, IsOpen, IsClosed, IsAwarded, Model, model, Stepped, accepted, step_in, step, beginning, after}
+use Rattle.rounds.specs.Model.{NotTaken, Reopened, told, award, written, Call, File, Withdraw, CatchUp, Close, Search, Reopen, ReadAward, WriteSheet, Answer, State, IsOpen, IsClosed, IsAwarded, Model, model, Stepped, accepted, step_in, step, open_and_vacant, after}
 use Rattle.rounds.specs.Promises.{LawfulCall, withdraws, withdrawn, closes, LastClosing, Promise, PromiseIn}
 use Rattle.rounds.proofs.Entered.{vacant_sound, filed_sound, withdrawn_sound, caught_sound}
 use Rattle.rounds.proofs.Dockets.{made, made_by, none_taken}
@@ -62,9 +62,9 @@ pub record Holds (calls : List Call) (m : Model) : Type 0 where
 
 -- What one call does to the entries.
 record Enters (call : Call) (before : Entries) (s : Stepped) : Type 0 where
-  sound : Sound s.left.entries
-  lasts : (i : ℕ) → Gone before i → Gone s.left.entries i
-  says : (i : ℕ) → withdraws (i + 1) call ≡ true → accepted s.answer ≡ true → Gone s.left.entries i
+  sound : Sound s.after.entries
+  lasts : (i : ℕ) → Gone before i → Gone s.after.entries i
+  says : (i : ℕ) → withdraws (i + 1) call ≡ true → accepted s.answer ≡ true → Gone s.after.entries i
 
 -- an entry that is withdrawn stays so
 gone_on : (a b : Entry Package) → Onward a b → is_withdrawn a ≡ true → is_withdrawn b ≡ true
@@ -73,13 +73,13 @@ gone_on (Open r) b on gone = absurd (true≢false (sym gone))
 gone_on (Withdrawn r) b on gone = ap is_withdrawn on
 
 -- an accepted withdrawal withdraws
-withdraws_it : {R : Type 0} (k : Layout R) (es : List (Entry R)) (i : ℕ) → is_ok (withdrawing k es (i + 1)).answer ≡ true → is_withdrawn (get_or (withdrawing k es (i + 1)).left i Vacant) ≡ true
+withdraws_it : {R : Type 0} (k : Layout R) (es : List (Entry R)) (i : ℕ) → is_ok (withdrawing k es (i + 1)).answer ≡ true → is_withdrawn (get_or (withdrawing k es (i + 1)).after i Vacant) ≡ true
 withdraws_it k es i =
-    cond_both (numbered k es (i + 1)) _ _ (λ (o : Outcome (List (Entry _))). is_ok o.answer ≡ true → is_withdrawn (get_or o.left i Vacant) ≡ true)
+    cond_both (numbered k es (i + 1)) _ _ (λ (o : Outcome (List (Entry _))). is_ok o.answer ≡ true → is_withdrawn (get_or o.after i Vacant) ≡ true)
     (λ e. over (inside k es (i + 1) e).1 (entry es (i + 1)))
     (λ _ bad. absurd (true≢false (sym bad)))
   where
-    over : i + 1 ≤ length es → (held : Entry _) → is_ok (withdraw_over k es (i + 1) held).answer ≡ true → is_withdrawn (get_or (withdraw_over k es (i + 1) held).left i Vacant) ≡ true
+    over : i + 1 ≤ length es → (held : Entry _) → is_ok (withdraw_over k es (i + 1) held).answer ≡ true → is_withdrawn (get_or (withdraw_over k es (i + 1) held).after i Vacant) ≡ true
     over inside Vacant bad = absurd (true≢false (sym bad))
     over inside (Open r) ok = ap is_withdrawn (get_or-set_at es (i + 1 - 1) i (Withdrawn r) Vacant (omega arith) (omega arith))
     over inside (Withdrawn r) bad = absurd (true≢false (sym bad))
@@ -92,14 +92,14 @@ module _ (all : Entries) (sound : Sound all) where
   filed : (n : ℕ) (x : Offer) → Enters (File n x) all (step_in all IsOpen (File n x))
   filed n x = record {
     sound = filed_sound all n x sound;
-    lasts = λ i. gone_on (get_or all.packages i Vacant) (get_or (file_offer all n x).left.packages i Vacant) ((file_kept all n x).onward kind.Package i);
+    lasts = λ i. gone_on (get_or all.packages i Vacant) (get_or (file_offer all n x).after.packages i Vacant) ((file_kept all n x).onward kind.Package i);
     says = λ i no. absurd (true≢false (sym no));
   }
 
-  withdrawn_now : (k : Kind) (n i : ℕ) → withdraws (i + 1) (Withdraw k n) ≡ true → is_ok (withdraw_offer all k n).answer ≡ true → Gone (withdraw_offer all k n).left i
+  withdrawn_now : (k : Kind) (n i : ℕ) → withdraws (i + 1) (Withdraw k n) ≡ true → is_ok (withdraw_offer all k n).answer ≡ true → Gone (withdraw_offer all k n).after i
   withdrawn_now kind.Package n i says ok =
       let same : n ≡ i + 1 = eqb-true n (i + 1) says in
-      subst (λ (m : ℕ). is_ok (withdraw_offer all kind.Package m).answer ≡ true → Gone (withdraw_offer all kind.Package m).left i) (sym same)
+      subst (λ (m : ℕ). is_ok (withdraw_offer all kind.Package m).answer ≡ true → Gone (withdraw_offer all kind.Package m).after i) (sym same)
       (withdraws_it (layout_of kind.Package) all.packages i) ok
   withdrawn_now kind.Band n i says ok = absurd (true≢false (sym says))
   withdrawn_now kind.Pair n i says ok = absurd (true≢false (sym says))
@@ -109,7 +109,7 @@ module _ (all : Entries) (sound : Sound all) where
   withdrew : (k : Kind) (n : ℕ) → Enters (Withdraw k n) all (step_in all IsOpen (Withdraw k n))
   withdrew k n = record {
     sound = withdrawn_sound all k n sound;
-    lasts = λ i. gone_on (get_or all.packages i Vacant) (get_or (withdraw_offer all k n).left.packages i Vacant) ((withdraw_kept all k n).onward kind.Package i);
+    lasts = λ i. gone_on (get_or all.packages i Vacant) (get_or (withdraw_offer all k n).after.packages i Vacant) ((withdraw_kept all k n).onward kind.Package i);
     says = withdrawn_now k n;
   }
 
@@ -118,7 +118,7 @@ module _ (all : Entries) (sound : Sound all) where
       let c = caught_up all sheet in
       record {
         sound = caught_sound all sheet sound;
-        lasts = λ i. gone_on (get_or all.packages i Vacant) (get_or (catching_up all sheet).left.packages i Vacant) (c.onward kind.Package i);
+        lasts = λ i. gone_on (get_or all.packages i Vacant) (get_or (catching_up all sheet).after.packages i Vacant) (c.onward kind.Package i);
         says = λ i says ok. c.withdrawn (ok_is (catching_up all sheet).answer ok) kind.Package i ∙ ap (λ b. withdrawn_at all kind.Package i || b) says ∙ or_true (withdrawn_at all kind.Package i);
       }
     where
@@ -127,7 +127,7 @@ module _ (all : Entries) (sound : Sound all) where
       or_true false = refl
 
   -- a call that leaves the entries as they are, and withdraws nothing
-  leaves : (call : Call) (s : Stepped) → s.left.entries ≡ all → ((i : ℕ) → withdraws (i + 1) call ≡ true → accepted s.answer ≡ true → ⊥) → Enters call all s
+  leaves : (call : Call) (s : Stepped) → s.after.entries ≡ all → ((i : ℕ) → withdraws (i + 1) call ≡ true → accepted s.answer ≡ true → ⊥) → Enters call all s
   leaves call s same none = record {
     sound = subst Sound (sym same) sound;
     lasts = λ i gone. subst (λ (a : Entries). Gone a i) (sym same) gone;
@@ -137,7 +137,7 @@ module _ (all : Entries) (sound : Sound all) where
 -- What one call more keeps.
 record Next (calls : List Call) (call : Call) (before : Entries) (s : Stepped) : Type 0 where
   enters : Enters call before s
-  in_state : InState (calls ++ call ∷ []) s.left.state
+  in_state : InState (calls ++ call ∷ []) s.after.state
 
 -- a docket and its search stay with one call more that is no accepted closing
 stays : (calls : List Call) (v : View) (at : Standing) (call : Call) → Searching calls v at → (closes call && accepted (step (after calls) call).answer) ≡ false → Searching (calls ++ call ∷ []) v at
@@ -185,7 +185,7 @@ module _ (calls : List Call) (all : Entries) (sound : Sound all) (gone : (i : �
       (λ _. record { enters = leaves all sound (Search rule count) _ refl (λ i no _. true≢false (sym no)); in_state = stays calls v at (Search rule count) was refl })
     where
       to : Standing
-      to = steps rule v count at
+      to = after_steps rule v count at
 
       on : Searching (calls ++ Search rule count ∷ []) v to
       on = record {
@@ -236,14 +236,14 @@ next calls all (IsAwarded v at) (WriteSheet buffer) is law h = quiet calls all (
 
 -- so a package that was withdrawn by then is gone
 gone_more : (calls : List Call) (all : Entries) (s : State) (call : Call) → after calls ≡ model all s → ((i : ℕ) → withdrawn (i + 1) calls ≡ true → Gone all i) → Enters call all (step_in all s call)
-    → (i : ℕ) → withdrawn (i + 1) (calls ++ call ∷ []) ≡ true → Gone (step_in all s call).left.entries i
+    → (i : ℕ) → withdrawn (i + 1) (calls ++ call ∷ []) ≡ true → Gone (step_in all s call).after.entries i
 gone_more calls all s call at gone enters i said =
     ⊎_elim
     (λ (was : withdrawn (i + 1) calls ≡ true). enters.lasts i (gone i was))
     (λ (now : (withdraws (i + 1) call && accepted (step (after calls) call).answer) ≡ true).
     let parts = and_parts (withdraws (i + 1) call) (accepted (step (after calls) call).answer) now in
     enters.says i parts.0 (subst (λ (m : Model). accepted (step m call).answer ≡ true) at parts.1))
-    (or_cases (withdrawn (i + 1) calls) (withdraws (i + 1) call && accepted (step (after calls) call).answer) (sym (some_more (withdraws (i + 1)) beginning calls call) ∙ said))
+    (or_cases (withdrawn (i + 1) calls) (withdraws (i + 1) call && accepted (step (after calls) call).answer) (sym (some_more (withdraws (i + 1)) open_and_vacant calls call) ∙ said))
 
 -- One call more, on what calls left.
 holds_more : (calls : List Call) (call : Call) → LawfulCall call → Holds calls (after calls) → Holds (calls ++ call ∷ []) (after (calls ++ call ∷ []))

@@ -4,14 +4,14 @@ use Rattle.std.proofs.lemmas.Bool.{cond_both, eqb-true, eqb-false, cases_lt, tru
 use Rattle.std.proofs.lemmas.Nat.Gcd.{le_of_dvd, dvd_of_mod-eq-zero}
 use Rattle.offers.specs.Fields.{within}
 use Rattle.offers.specs.Memory.{Entries}
-use Rattle.offers.specs.Refusals.{refused_at}
+use Rattle.offers.specs.Refusals.{code_only}
 use Rattle.offers.specs.declared.refusals.Code.TheVariants.{StepsOutside}
 use Rattle.clearing.specs.Closing.{ByClosing}
 use Rattle.clearing.specs.Lawful.{View, choices}
 use Rattle.clearing.proofs.ClosedRanges.{ranged-closing}
 use Rattle.clearing.proofs.Judged.{worth_tells}
 use Rattle.bounds.specs.Blocks.{Answers, SoundRule}
-use Rattle.search.specs.Search.{Standing, Placed, Leads, finished, step as search_step, steps}
+use Rattle.search.specs.Search.{Standing, Placed, Leads, finished, after_step, after_steps}
 use Rattle.search.proofs.Placings.{Moved, step-placed, moves_on}
 use Rattle.search.proofs.Leadings.{step-leads}
 use Rattle.search.proofs.Zeros.{power-smaller}
@@ -24,15 +24,15 @@ some_left v at placed e = omega (arith, placed.most, eqb-false at.settled (choic
 
 module _ (rule : Answers) (v : View) where
   -- steps leave a search placed
-  pub steps_placed : (count : ℕ) (at : Standing) → Placed v at → Placed v (steps rule v count at)
+  pub steps_placed : (count : ℕ) (at : Standing) → Placed v at → Placed v (after_steps rule v count at)
   steps_placed zero at placed = placed
   steps_placed (suc count) at placed =
       cond_both (finished v at) _ _ (Placed v)
       (λ _. placed)
-      (λ e. steps_placed count (search_step rule v at) (step-placed rule v at placed (some_left v at placed e)))
+      (λ e. steps_placed count (after_step rule v at) (step-placed rule v at placed (some_left v at placed e)))
 
   -- and its leader the best of the settled choices
-  pub steps_lead : ByClosing v → SoundRule rule → (count : ℕ) (at : Standing) → Placed v at → Leads v at → Leads v (steps rule v count at)
+  pub steps_lead : ByClosing v → SoundRule rule → (count : ℕ) (at : Standing) → Placed v at → Leads v at → Leads v (after_steps rule v count at)
   steps_lead closed sound zero at placed leads = leads
   steps_lead closed sound (suc count) at placed leads =
       let ranged = ranged-closing v closed in
@@ -40,24 +40,24 @@ module _ (rule : Answers) (v : View) where
       (λ _. leads)
       (λ e.
       let below = some_left v at placed e in
-      steps_lead closed sound count (search_step rule v at) (step-placed rule v at placed below)
+      steps_lead closed sound count (after_step rule v at) (step-placed rule v at placed below)
       (step-leads v ranged rule (worth_tells v ranged) (λ b. sound v b closed) at placed below leads))
 
   -- so many steps have settled something, or left a smaller block for each
   steps_move : (from at : Standing) (count so_far : ℕ) → Moved from at so_far
-      → (finished v (steps rule v count at) ≡ false) → Moved from (steps rule v count at) (so_far + count)
+      → (finished v (after_steps rule v count at) ≡ false) → Moved from (after_steps rule v count at) (so_far + count)
   steps_move from at zero so_far moved going = subst (Moved from at) (sym (add-zero so_far)) moved
   steps_move from at (suc count) so_far moved going =
-      by (finished v at) refl (steps_move from (search_step rule v at) count (so_far + 1) (moves_on rule v from at so_far moved)) going
+      by (finished v at) refl (steps_move from (after_step rule v at) count (so_far + 1) (moves_on rule v from at so_far moved)) going
     where
       by : (b : Bool) → finished v at ≡ b
-          → (finished v (steps rule v count (search_step rule v at)) ≡ false → Moved from (steps rule v count (search_step rule v at)) (so_far + 1 + count))
-          → finished v (cond b at (steps rule v count (search_step rule v at))) ≡ false
-          → Moved from (cond b at (steps rule v count (search_step rule v at))) (so_far + suc count)
+          → (finished v (after_steps rule v count (after_step rule v at)) ≡ false → Moved from (after_steps rule v count (after_step rule v at)) (so_far + 1 + count))
+          → finished v (cond b at (after_steps rule v count (after_step rule v at))) ≡ false
+          → Moved from (cond b at (after_steps rule v count (after_step rule v at))) (so_far + suc count)
       by true e on going = absurd (true≢false (sym e ∙ going))
       by false e on going =
           let more : so_far + 1 + count ≡ so_far + suc count = omega arith in
-          subst (Moved from (steps rule v count (search_step rule v at))) more (on going)
+          subst (Moved from (after_steps rule v count (after_step rule v at))) more (on going)
 
 -- a block that is next is smaller than the docket, since choice 0 is settled
 small_block : (v : View) (at : Standing) → Placed v at → at.settled < choices v → at.free < length v.packages
@@ -94,11 +94,11 @@ settles all v from at so_far (ReadAward lent ∷ more) placed below moved none e
 settles all v from at so_far (WriteSheet buffer ∷ more) placed below moved none enough = settles all v from at so_far more placed below moved none (omega arith)
 settles all v from at so_far (Search rule count ∷ more) placed below moved none enough =
     by (within 1 1000000 count) (settles all v from at so_far more placed below moved)
-    (settles all v from (steps rule v count at) (so_far + count) more placed below)
+    (settles all v from (after_steps rule v count at) (so_far + count) more placed below)
     none enough
   where
     to : Standing
-    to = steps rule v count at
+    to = after_steps rule v count at
 
     ended : (b : Bool) → finished v to ≡ b
         → (Moved from to (so_far + count) → some_accepted reopens (model all (IsClosed v to)) more ≡ false → length v.packages ≤ so_far + count + steps_given (model all (IsClosed v to)) more
@@ -117,8 +117,8 @@ settles all v from at so_far (Search rule count ∷ more) placed below moved non
         → from.settled < settled_in (after_from (model all (IsClosed v at)) more).state)
         → (Moved from to (so_far + count) → some_accepted reopens (model all (IsClosed v to)) more ≡ false → length v.packages ≤ so_far + count + steps_given (model all (IsClosed v to)) more
         → from.settled < settled_in (after_from (model all (IsClosed v to)) more).state)
-        → some_accepted reopens (cond b (searched all v to) (told all (IsClosed v at) (Found (Err (refused_at StepsOutside 0 0 0))))).left more ≡ false
-        → length v.packages ≤ so_far + (steps_of (Search rule count) (accepted (cond b (searched all v to) (told all (IsClosed v at) (Found (Err (refused_at StepsOutside 0 0 0))))).answer) + steps_given (cond b (searched all v to) (told all (IsClosed v at) (Found (Err (refused_at StepsOutside 0 0 0))))).left more)
-        → from.settled < settled_in (after_from (cond b (searched all v to) (told all (IsClosed v at) (Found (Err (refused_at StepsOutside 0 0 0))))).left more).state
+        → some_accepted reopens (cond b (searched all v to) (told all (IsClosed v at) (Found (Err (code_only StepsOutside))))).after more ≡ false
+        → length v.packages ≤ so_far + (steps_of (Search rule count) (accepted (cond b (searched all v to) (told all (IsClosed v at) (Found (Err (code_only StepsOutside))))).answer) + steps_given (cond b (searched all v to) (told all (IsClosed v at) (Found (Err (code_only StepsOutside))))).after more)
+        → from.settled < settled_in (after_from (cond b (searched all v to) (told all (IsClosed v at) (Found (Err (code_only StepsOutside))))).after more).state
     by true stay on none enough = ended (finished v to) refl on none enough
     by false stay on none enough = stay none (omega arith)

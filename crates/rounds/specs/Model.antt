@@ -1,23 +1,24 @@
 -- A plain round, and what each call does to it: fed only the calls' arguments and the rules' meanings. Assumes nothing.
-use Rattle.std.specs.Prelude.{ℕ, Bool, true, false, cond, ◌&&◌, ◌||◌, List, [], ◌∷◌, ◌++◌, length, drop, ℤ, Ok, Err, Result, is_ok, nat_le}
-use Rattle.offers.specs.declared.memory.Kind.{Kind}
+use Rattle.std.specs.Prelude.{ℕ, Bool, true, false, ◌&&◌, ◌||◌, List, [], ◌∷◌, ◌++◌, length, drop, ℤ, Ok, Err, Result, is_ok, nat_le, if◌then◌else◌}
+use Rattle.offers.specs.declared.kinds.Kind.{Kind}
 use Rattle.offers.specs.declared.memory.Offer.{Offer}
 use Rattle.offers.specs.declared.refusals.Code.TheVariants.{NoRoom, StepsOutside}
 use Rattle.offers.specs.declared.refusals.Refusal.{Refusal}
 use Rattle.offers.specs.Fields.{within}
-use Rattle.offers.specs.Memory.{Entries, vacant, file_offer, withdraw_offer}
-use Rattle.offers.specs.Refusals.{refused_at}
+use Rattle.offers.specs.Memory.{Entries, all_vacant, file_offer, withdraw_offer}
+use Rattle.offers.specs.Refusals.{code_only}
 use Rattle.offers.specs.Registers.{Outcome}
 use Rattle.sheets.specs.Reading.{catching_up}
 use Rattle.sheets.specs.Writing.{write_sheet}
-use Rattle.clearing.specs.Closing.{Meaning, closing}
+use Rattle.clearing.specs.Closing.{closing}
+use Rattle.pricing.specs.Prices.{Meaning}
 use Rattle.clearing.specs.Lawful.{View, nothing_open}
 use Rattle.clearing.specs.Choices.{taken, supply}
 use Rattle.clearing.specs.Sales.{sale_of}
 use Rattle.clearing.specs.Tallies.{row}
 use Rattle.bounds.specs.Blocks.{Answers}
 use Rattle.rounds.specs.declared.awarded_round.Award.{Award}
-use Rattle.search.specs.Search.{Standing, start, finished, steps}
+use Rattle.search.specs.Search.{Standing, start_position, finished, after_steps}
 
 -- what a caller may ask of a round
 pub data Call : Type 0 where
@@ -73,31 +74,31 @@ model entries state = record { entries = entries; state = state }
 
 -- what a call leaves, and what it answers
 pub record Stepped : Type 0 where
-  pub left : Model
+  pub after : Model
   pub answer : Answer
 
 -- an answer that leaves all as it is
 abbrev pub told : Entries → State → Answer → Stepped
-told entries state answer = record { left = model entries state; answer = answer }
+told entries state answer = record { after = model entries state; answer = answer }
 
 -- filing, withdrawing or catching up
 abbrev pub entered : Outcome Entries → Stepped
-entered o = record { left = model o.left IsOpen; answer = Done o.answer }
+entered o = record { after = model o.after IsOpen; answer = Done o.answer }
 
 -- a closing makes the docket, and choice 0 is settled and leads
 abbrev pub closed_state : Result Unit Refusal → View → State
-closed_state (Ok done) v = IsClosed v start
+closed_state (Ok done) v = IsClosed v start_position
 closed_state (Err e) v = IsOpen
 
 abbrev pub closed : Entries → Outcome View → Stepped
-closed entries o = record { left = model entries (closed_state o.answer o.left); answer = Done o.answer }
+closed entries o = record { after = model entries (closed_state o.answer o.after); answer = Done o.answer }
 
 -- a search that ends finished makes the award
 abbrev pub searched_state : View → Standing → State
-searched_state v at = cond (finished v at) (IsAwarded v at) (IsClosed v at)
+searched_state v at = if finished v at then IsAwarded v at else IsClosed v at
 
 abbrev pub searched : Entries → View → Standing → Stepped
-searched entries v at = record { left = model entries (searched_state v at); answer = Found (Ok (at.settled, at.surplus)) }
+searched entries v at = record { after = model entries (searched_state v at); answer = Found (Ok (at.settled, at.surplus)) }
 
 -- what the packages that a choice takes supply, market m at place m - 1
 abbrev pub supplies : View → ℕ → List ℕ
@@ -110,9 +111,9 @@ sold_row v choice = row (sale_of v.bands (supplies v choice)) 1 64
 -- the leader is the award; the row has 64 places
 abbrev pub award : View → Standing → List ℕ → Answer
 award v at lent =
-    cond (nat_le 64 (length lent))
-    (Awarded (Ok (record { choice = at.leader; surplus = at.surplus })) (sold_row v at.leader ++ drop 64 lent))
-    (Awarded (Err (refused_at NoRoom 0 0 0)) lent)
+    if nat_le 64 (length lent)
+    then Awarded (Ok (record { choice = at.leader; surplus = at.surplus })) (sold_row v at.leader ++ drop 64 lent)
+    else Awarded (Err (code_only NoRoom)) lent
 
 abbrev pub written : Entries → List ℕ → Answer
 written entries buffer = Written (write_sheet entries buffer).answer (write_sheet entries buffer).buffer
@@ -124,7 +125,7 @@ step_in all IsOpen (Withdraw k n) = entered (withdraw_offer all k n)
 step_in all IsOpen (CatchUp sheet) = entered (catching_up all sheet)
 step_in all IsOpen (Close price) = closed all (closing nothing_open all price)
 step_in all (IsClosed v at) (Search rule count) =
-    cond (within 1 1000000 count) (searched all v (steps rule v count at)) (told all (IsClosed v at) (Found (Err (refused_at StepsOutside 0 0 0))))
+    if within 1 1000000 count then searched all v (after_steps rule v count at) else told all (IsClosed v at) (Found (Err (code_only StepsOutside)))
 step_in all (IsClosed v at) Reopen = told all IsOpen Reopened
 step_in all (IsAwarded v at) Reopen = told all IsOpen Reopened
 step_in all (IsAwarded v at) (ReadAward lent) = told all (IsAwarded v at) (award v at lent)
@@ -135,51 +136,51 @@ abbrev pub step : Model → Call → Stepped
 step m call = step_in m.entries m.state call
 
 -- a round begins open and vacant
-abbrev pub beginning : Model
-beginning = model vacant IsOpen
+abbrev pub open_and_vacant : Model
+open_and_vacant = model all_vacant IsOpen
 
 -- calls one after another, each on what the one before it left
 abbrev pub after_from : Model → List Call → Model
 after_from m [] = m
-after_from m (call ∷ calls) = after_from (step m call).left calls
+after_from m (call ∷ calls) = after_from (step m call).after calls
 
 abbrev pub after : List Call → Model
-after calls = after_from beginning calls
+after calls = after_from open_and_vacant calls
 
 -- what calls are answered, each on what the one before it left
 abbrev pub answers_from : Model → List Call → List Answer
 answers_from m [] = []
-answers_from m (call ∷ calls) = let s : Stepped = step m call in s.answer ∷ answers_from s.left calls
+answers_from m (call ∷ calls) = let s : Stepped = step m call in s.answer ∷ answers_from s.after calls
 
 abbrev pub answers : List Call → List Answer
-answers calls = answers_from beginning calls
+answers calls = answers_from open_and_vacant calls
 
 -- where a round stands, without its docket
-pub data Stage : Type 0 where
-  AtOpen : Stage
-  AtClosed : Standing → Stage
-  AtAwarded : Standing → Stage
+pub data PlainStage : Type 0 where
+  AtOpen : PlainStage
+  AtClosed : Standing → PlainStage
+  AtAwarded : Standing → PlainStage
 
-abbrev pub stage_in : State → Stage
+abbrev pub stage_in : State → PlainStage
 stage_in IsOpen = AtOpen
 stage_in (IsClosed v at) = AtClosed at
 stage_in (IsAwarded v at) = AtAwarded at
 
 -- what a call is answered, and the entries and where the round stands right after it
-pub record Moment : Type 0 where
+pub record PlainMoment : Type 0 where
   pub answer : Answer
   pub entries : Entries
-  pub stage : Stage
+  pub stage : PlainStage
 
-abbrev pub moment : Stepped → Moment
-moment s = record { answer = s.answer; entries = s.left.entries; stage = stage_in s.left.state }
+abbrev pub moment : Stepped → PlainMoment
+moment s = record { answer = s.answer; entries = s.after.entries; stage = stage_in s.after.state }
 
 -- the moments of a run, one after each call
-abbrev pub moments_from : Model → List Call → List Moment
+abbrev pub moments_from : Model → List Call → List PlainMoment
 moments_from m [] = []
-moments_from m (call ∷ calls) = moment (step m call) ∷ moments_from (step m call).left calls
+moments_from m (call ∷ calls) = moment (step m call) ∷ moments_from (step m call).after calls
 
 -- one of the calls passes a test and is accepted
 abbrev pub some_accepted : (Call → Bool) → Model → List Call → Bool
 some_accepted test m [] = false
-some_accepted test m (call ∷ calls) = (test call && accepted (step m call).answer) || some_accepted test (step m call).left calls
+some_accepted test m (call ∷ calls) = (test call && accepted (step m call).answer) || some_accepted test (step m call).after calls

@@ -1,28 +1,28 @@
 -- What is promised of a round, in words of the subject. Nothing here says how a search goes. Assumes nothing.
-use Rattle.std.specs.Prelude.{◌≡◌, ℕ, ◌+◌, ◌-◌, ◌<◌, ◌≤◌, Bool, true, false, cond, ◌&&◌, List, [], ◌∷◌, ◌++◌, map, length, Ok, Err, Some, None, Option, ◌==◌, slice_index_or}
-use Rattle.offers.specs.declared.memory.Kind.{Kind}
-use Rattle.offers.specs.declared.memory.Kind.TheVariants as kind
+use Rattle.std.specs.Prelude.{◌≡◌, ℕ, ◌+◌, ◌-◌, ◌<◌, ◌≤◌, Bool, true, false, ◌&&◌, List, [], ◌∷◌, ◌++◌, map, length, Ok, Err, Some, None, Option, ◌==◌, slice_index_or, if◌then◌else◌}
+use Rattle.offers.specs.declared.kinds.Kind.{Kind}
+use Rattle.offers.specs.declared.kinds.Kind.TheVariants as kind
 use Rattle.offers.specs.declared.records.Package.{Package}
 use Rattle.offers.specs.declared.refusals.Refusal.{Refusal}
 use Rattle.offers.specs.Memory.{entries_of}
 use Rattle.offers.specs.Refusals.{Carries}
 use Rattle.offers.specs.Registers.{Onward}
 use Rattle.offers.specs.declared.registers.Entry.TheVariants.{Vacant}
-use Rattle.pricing.specs.Prices.{Bounded}
+use Rattle.pricing.specs.Prices.{BoundedRule, Meaning}
 use Rattle.sheets.specs.Laws.{says_withdrawn}
 use Rattle.clearing.specs.Choices.{taken, has_number}
-use Rattle.clearing.specs.Closing.{Meaning, OfOpen, closing}
+use Rattle.clearing.specs.Closing.{OfOpen, closing}
 use Rattle.clearing.specs.Lawful.{View, nothing_open, filled_sales, choices}
 use Rattle.bounds.specs.Blocks.{SoundRule}
 use Rattle.search.specs.Search.{Standing, Leading}
-use Rattle.rounds.specs.Model.{Call, File, Withdraw, CatchUp, Close, Search, Reopen, ReadAward, WriteSheet, Answer, Done, Found, Reopened, Awarded, Written, NotTaken, State, IsOpen, IsClosed, IsAwarded, Model, Stepped, accepted, sold_row, step, beginning, after_from, after, some_accepted}
+use Rattle.rounds.specs.Model.{Call, File, Withdraw, CatchUp, Close, Search, Reopen, ReadAward, WriteSheet, Answer, Done, Found, Reopened, Awarded, Written, NotTaken, State, IsOpen, IsClosed, IsAwarded, Model, Stepped, accepted, sold_row, step, open_and_vacant, after_from, after, some_accepted}
 
 -- a call whose rule, if it has one, shows its law: prices in range, or answers that are true of every block of every docket that a closing makes
 abbrev pub LawfulCall : Call → Type 0
 LawfulCall (File n offer) = Unit {0}
 LawfulCall (Withdraw k n) = Unit {0}
 LawfulCall (CatchUp sheet) = Unit {0}
-LawfulCall (Close price) = (p : Package) → Bounded (price p)
+LawfulCall (Close price) = BoundedRule price
 LawfulCall (Search rule count) = SoundRule rule
 LawfulCall Reopen = Unit {0}
 LawfulCall (ReadAward lent) = Unit {0}
@@ -48,7 +48,7 @@ withdraws n (WriteSheet buffer) = false
 
 -- package n is withdrawn once an accepted call says so
 abbrev pub withdrawn : ℕ → List Call → Bool
-withdrawn n calls = some_accepted (withdraws n) beginning calls
+withdrawn n calls = some_accepted (withdraws n) open_and_vacant calls
 
 abbrev pub closes : Call → Bool
 closes (File n offer) = false
@@ -80,7 +80,7 @@ pub record LastClosing (calls : List Call) (docket : View) : Type 0 where
   -- the round was open when it came
   pub was_open : (after before).state ≡ IsOpen
   -- it was accepted, and made this docket
-  pub made : closing nothing_open (after before).entries price ≡ record { answer = Ok tt; left = docket }
+  pub made : closing nothing_open (after before).entries price ≡ record { answer = Ok tt; after = docket }
   -- which has what was open among the entries that the calls before it had left, at the rule's prices, and nothing else
   pub open_then : OfOpen (after before).entries price docket
   -- no later closing was accepted
@@ -92,7 +92,7 @@ steps_of (File n offer) so = 0
 steps_of (Withdraw k n) so = 0
 steps_of (CatchUp sheet) so = 0
 steps_of (Close price) so = 0
-steps_of (Search rule count) so = cond so count 0
+steps_of (Search rule count) so = if so then count else 0
 steps_of Reopen so = 0
 steps_of (ReadAward lent) so = 0
 steps_of (WriteSheet buffer) so = 0
@@ -100,7 +100,7 @@ steps_of (WriteSheet buffer) so = 0
 -- the steps that the accepted searches among calls are given, together
 abbrev pub steps_given : Model → List Call → ℕ
 steps_given m [] = 0
-steps_given m (call ∷ calls) = steps_of call (accepted (step m call).answer) + steps_given (step m call).left calls
+steps_given m (call ∷ calls) = steps_of call (accepted (step m call).answer) + steps_given (step m call).after calls
 
 -- the choices that are settled, where there is a docket
 abbrev pub settled_in : State → ℕ
@@ -177,9 +177,9 @@ lent_back NotTaken = []
 -- What every call keeps.
 pub record Keeps (before : Model) (call : Call) (s : Stepped) : Type 0 where
   -- no offer number goes back, and a record never changes
-  pub onward : (k : Kind) (i : ℕ) → Onward (slice_index_or (entries_of before.entries k) i Vacant) (slice_index_or (entries_of s.left.entries k) i Vacant)
+  pub onward : (k : Kind) (i : ℕ) → Onward (slice_index_or (entries_of before.entries k) i Vacant) (slice_index_or (entries_of s.after.entries k) i Vacant)
   -- a call that is not accepted leaves the round as it was
-  pub unchanged : accepted s.answer ≡ false → s.left ≡ before
+  pub unchanged : accepted s.answer ≡ false → s.after ≡ before
   -- a refusal leaves the row or buffer that was lent as it was, and carries no more than its code does
   pub lent : (e : Refusal) → refusal_in s.answer ≡ Some e → lent_back s.answer ≡ lent_with call
   pub carries : (e : Refusal) → refusal_in s.answer ≡ Some e → Carries e

@@ -1,7 +1,7 @@
 -- Requests and replies as calls and answers. Assumes nothing.
 use Rattle.std.specs.Prelude.{vec_items}
 use Rattle.bounds.specs.Blocks.{Answers}
-use Rattle.clearing.specs.Closing.{Meaning}
+use Rattle.pricing.specs.Prices.{Meaning}
 use Rattle.rounds.specs.declared.requests.Round.{Round}
 use Rattle.rounds.specs.declared.requests.Round.TheVariants as round
 use Rattle.rounds.specs.declared.requests.Request.{Request}

@@ -2,11 +2,11 @@
 use Rattle.std.specs.Prelude.{◌<◌, ◌≤◌, ◌≡◌, ℕ, List, ◌∷◌, [], ◌++◌, replicate, Ok, Err, Result}
 use Rattle.std.specs.List.{AllByRecursion as Every}
 use Rattle.offers.specs.declared.refusals.Refusal.{Refusal}
-use Rattle.offers.specs.Memory.{held}
+use Rattle.offers.specs.Memory.{entries_in}
 use Rattle.clearing.specs.Lawful.{View, view, nothing_open}
 use Rattle.bounds.specs.Blocks.{Answers}
 use Rattle.search.specs.declared.positions.Position.{Position}
-use Rattle.search.specs.Search.{standing, left}
+use Rattle.search.specs.Search.{standing, work_left}
 use Rattle.rounds.specs.declared.open_round.OpenRound.{OpenRound}
 use Rattle.rounds.specs.declared.closed_round.ClosedRound.{ClosedRound}
 use Rattle.rounds.specs.declared.awarded_round.AwardedRound.{AwardedRound}
@@ -16,13 +16,13 @@ use Rattle.rounds.specs.Model.{step, Call, Search, Answer, State, IsOpen, IsClos
 use Rattle.rounds.specs.Promises.{LawfulCall, Promise, Keeps}
 
 abbrev pub of_open : OpenRound → Model
-of_open r = model (held r.offers) IsOpen
+of_open r = model (entries_in r.offers) IsOpen
 
 abbrev pub of_closed : ClosedRound → Model
-of_closed r = model (held r.offers) (IsClosed (view r.docket) (standing r.at))
+of_closed r = model (entries_in r.offers) (IsClosed (view r.docket) (standing r.at))
 
 abbrev pub of_awarded : AwardedRound → Model
-of_awarded r = model (held r.offers) (IsAwarded (view r.docket) (standing r.at))
+of_awarded r = model (entries_in r.offers) (IsAwarded (view r.docket) (standing r.at))
 
 abbrev pub of_searched : Searched → Model
 of_searched (searched.Closed r) = of_closed r
@@ -36,7 +36,7 @@ docket_in (IsAwarded docket at) = docket
 
 -- what a call left and answered
 abbrev pub gave : Model → Answer → Stepped
-gave left answer = record { left = left; answer = answer }
+gave work_left answer = record { after = work_left; answer = answer }
 
 -- a closing gives a closed round, or the open one back with the refusal
 abbrev pub gave_closing : Result ClosedRound (OpenRound × Refusal) → Stepped
@@ -46,11 +46,11 @@ gave_closing (Err e) = gave (of_open e.0) (Done (Err e.1))
 -- What one call more adds to a run: the plain round comes to the same, and the promise holds of the round.
 pub record OneMore (calls : List Call) (call : Call) (s : Stepped) : Type 0 where
   -- what is left is what the calls and this one lead to
-  pub left : s.left ≡ after (calls ++ call ∷ [])
+  pub round : s.after ≡ after (calls ++ call ∷ [])
   -- the answer is that of the plain round which the calls led to
   pub answer : s.answer ≡ (step (after calls) call).answer
   -- and what is promised is promised of what is left
-  pub promise : Promise (calls ++ call ∷ []) s.left
+  pub promise : Promise (calls ++ call ∷ []) s.after
 
 -- So it is of every run of calls with lawful rules that led to the round.
 abbrev pub Continues : Model → Call → Stepped → Type 0
@@ -67,16 +67,16 @@ pub record Serves (before : Model) (call : Call) (s : Stepped) : Type 0 where
 
 -- a search that has not finished leaves less to do
 abbrev pub Falls : Searched → Position → Type 0
-Falls (searched.Closed r) from = left r.at < left from
+Falls (searched.Closed r) from = work_left r.at < work_left from
 Falls (searched.Awarded r) from = Unit {0}
 
 -- A closed round is searched to its end.
-pub record Finishes (before : Model) (rule : Answers) (left : Model) : Type 0 where
+pub record Finishes (before : Model) (rule : Answers) (work_left : Model) : Type 0 where
   -- so many searches under a rule, each of so many steps, a number that a search takes, lead to what is left
   pub searches : ℕ
   pub steps : ℕ
   pub some : 1 ≤ steps
   pub most : steps ≤ 1000000
-  pub is : left ≡ after_from before (replicate searches (Search rule steps))
+  pub is : work_left ≡ after_from before (replicate searches (Search rule steps))
   -- and what is promised of a run that led to the round is promised of what is left
-  pub run : (calls : List Call) → Every LawfulCall calls → after calls ≡ before → Promise (calls ++ replicate searches (Search rule steps)) left
+  pub run : (calls : List Call) → Every LawfulCall calls → after calls ≡ before → Promise (calls ++ replicate searches (Search rule steps)) work_left

@@ -1,24 +1,21 @@
-// An awarded round: its search has settled every choice, and the leader is the award.
+//! An awarded round: its search has settled every choice, and the leader is the award.
 ghost use Rattle.std.specs.Prelude.{◌≡◌};
 ghost use Rattle.clearing.specs.Lawful.{view, choices};
 
 use crate::open_round::OpenRound;
-use clearing::dockets::Docket;
-use clearing::sales::sales_row;
-use clearing::tallies::Tally;
-use offers::memory::Offers;
-use offers::refusals::{Code, Refusal};
-use search::positions::Position;
-use sheets::writing::write_sheet;
+use clearing::{Docket, Tally, sales_row};
+use offers::{Code, Offers, Refusal};
+use search::Position;
+use sheets::write_sheet;
 
-// What a round awards: a choice of the open packages, and its surplus in pesos.
+/// What a round awards: a choice of the open packages, and its surplus in pesos.
 #[derive(Clone, Copy, PartialEq, Eq, Debug)]
 pub struct Award {
     pub choice: u64,
     pub surplus: i64,
 }
 
-// Every choice of its docket is settled.
+/// Every choice of its docket is settled.
 #[derive(Drop)]
 pub struct AwardedRound {
     pub(crate) offers: Offers,
@@ -31,35 +28,35 @@ impl AwardedRound {
     ghost use Rattle.rounds.specs.Model.{ReadAward, Reopen, WriteSheet, Awarded, Reopened, Written, step};
     ghost use Rattle.rounds.specs.Views.{of_open, of_awarded, gave, docket_in, Serves};
 
-    // The award, with what each band is sold, by offer number, in the row's first 64 places; a longer row keeps its rest, and a
-    // shorter one is refused and stays as it is.
+    /// The award, with what each band is sold, by offer number, in the row's first 64 places; a longer row keeps its rest, and a
+    /// shorter one is refused and stays as it is.
     pub fn award(&self, row: &mut [u64]) -> Result<Award, Refusal>
         ensures { Serves (of_awarded self.now) (ReadAward row.old) (gave (of_awarded self.now) (Awarded result row.new)) }
     {
         if row.len() < 64 {
-            return Err(Refusal::of(Code::NoRoom));
+            return Err(Refusal::code_only(Code::NoRoom));
         }
-        let taken = Tally::of(&self.docket, self.at.leader);
+        let taken = Tally::new(&self.docket, self.at.leader);
         let sold = sales_row(&self.docket, &taken.supply);
         row[..64].copy_from_slice(&sold);
         Ok(leader(self.at))
     }
 
-    // What was open at the closing.
+    /// What was open at the closing.
     pub fn docket(&self) -> &Docket
         ensures { view result.now ≡ docket_in (of_awarded self.now).state }
     {
         &self.docket
     }
 
-    // Writes the sheet of the offers into the buffer's first bytes, and gives its length.
+    /// Writes the sheet of the offers into the buffer's first bytes, and gives its length.
     pub fn write_sheet(&self, buffer: &mut [u8]) -> Result<usize, Refusal>
         ensures { Serves (of_awarded self.now) (WriteSheet buffer.old) (gave (of_awarded self.now) (Written result buffer.new)) }
     {
         write_sheet(&self.offers, buffer)
     }
 
-    // Drops the docket and the award.
+    /// Drops the docket and the award.
     pub fn reopen(self) -> OpenRound
         ensures { Serves (of_awarded self) Reopen (gave (of_open result) Reopened) }
     {

@@ -1,19 +1,17 @@
-// A closed round: it has a docket, which is searched.
+//! A closed round: it has a docket, which is searched.
 ghost use Rattle.std.specs.Prelude.{◌≡◌, ◌≤◌};
 ghost use Rattle.clearing.specs.Lawful.{view};
 ghost use Rattle.search.specs.Search.{Placed, standing};
 
 use crate::awarded_round::AwardedRound;
 use crate::open_round::OpenRound;
-use bounds::blocks::BoundingRule;
-use clearing::dockets::Docket;
-use offers::memory::Offers;
-use offers::refusals::{Code, Refusal};
-use search::positions::Position;
-use search::steps::{choices, run};
-use sheets::writing::write_sheet;
+use bounds::BoundingRule;
+use clearing::Docket;
+use offers::{Code, Offers, Refusal};
+use search::{Position, choices};
+use sheets::write_sheet;
 
-// Some choices are settled, and one of them leads.
+/// Some choices are settled, and one of them leads.
 #[derive(Drop)]
 pub struct ClosedRound {
     pub(crate) offers: Offers,
@@ -22,7 +20,7 @@ pub struct ClosedRound {
     ghost placed: { Placed (view docket) (standing at) },
 }
 
-// What a search leaves.
+/// What a search leaves.
 #[derive(Drop)]
 pub enum Searched {
     Closed(ClosedRound),
@@ -33,7 +31,7 @@ impl ClosedRound {
     ghost use Rattle.rounds.specs.Model.{Search, Reopen, WriteSheet, Found, Reopened, Written, step};
     ghost use Rattle.rounds.specs.Views.{of_open, of_closed, of_searched, gave, Serves, Falls};
 
-    // Makes so many steps of the search, 1 to 1,000,000, or fewer if it finishes: choices settled, and the leader's surplus in pesos.
+    /// Makes so many steps of the search, 1 to 1,000,000, or fewer if it finishes: choices settled, and the leader's surplus in pesos.
     pub fn search<B: BoundingRule>(
         self,
         rule: &mut B,
@@ -44,14 +42,17 @@ impl ClosedRound {
         ensures falls { 1 ≤ steps → steps ≤ 1000000 → Falls result.0 self.at }
     {
         if !(1..=1_000_000).contains(&steps) {
-            return (Searched::Closed(self), Err(Refusal::of(Code::StepsOutside)));
+            return (
+                Searched::Closed(self),
+                Err(Refusal::code_only(Code::StepsOutside)),
+            );
         }
         let ClosedRound {
             offers,
             docket,
             at: from,
         } = self;
-        let at = run(&docket, from, rule, steps);
+        let at = from.run(&docket, rule, steps);
         let found = found(at);
         let next = if at.settled == choices(&docket) {
             Searched::Awarded(AwardedRound { offers, docket, at })
@@ -61,14 +62,14 @@ impl ClosedRound {
         (next, Ok(found))
     }
 
-    // Writes the sheet of the offers into the buffer's first bytes, and gives its length.
+    /// Writes the sheet of the offers into the buffer's first bytes, and gives its length.
     pub fn write_sheet(&self, buffer: &mut [u8]) -> Result<usize, Refusal>
         ensures { Serves (of_closed self.now) (WriteSheet buffer.old) (gave (of_closed self.now) (Written result buffer.new)) }
     {
         write_sheet(&self.offers, buffer)
     }
 
-    // Drops the docket.
+    /// Drops the docket.
     pub fn reopen(self) -> OpenRound
         ensures { Serves (of_closed self) Reopen (gave (of_open result) Reopened) }
     {

@@ -1,19 +1,19 @@
-// A search to its end, with word of how far it is.
+//! A search to its end, with word of how far it is.
 ghost use Rattle.std.specs.Prelude.{◌≡◌, ◌≤◌};
 ghost use Rattle.rounds.specs.Views.{of_closed, of_awarded, Finishes};
 
 use crate::awarded_round::AwardedRound;
 use crate::closed_round::{ClosedRound, Searched};
-use bounds::blocks::BoundingRule;
-use search::steps::choices;
+use bounds::BoundingRule;
+use search::choices;
 
-// Who wants to know how far a search is. A closure in its place would have `finish` require that it may be called.
+/// Who wants to know how far a search is. A closure in its place would have `finish` require that it may be called.
 pub trait Progress {
-    // Choices settled of all, and the surplus of the leader in pesos.
+    /// Choices settled of all, and the surplus of the leader in pesos.
     fn note(&mut self, settled: u64, choices: u64, surplus: i64);
 }
 
-// Searches by a rule until every choice is settled, a million steps at a time, and tells after each time how far it is.
+/// Searches by a rule until every choice is settled, a million steps at a time, and tells after each time how far it is.
 pub fn finish<B: BoundingRule, P: Progress>(
     round: ClosedRound,
     rule: &mut B,

@@ -1,18 +1,16 @@
-// An open round: it takes filings, withdrawals, sheets and a closing.
+//! An open round: it takes filings, withdrawals, sheets and a closing.
 ghost use Rattle.std.specs.Prelude.{◌≡◌};
 ghost use Rattle.clearing.specs.Lawful.{view, nothing_open};
 
 use crate::closed_round::ClosedRound;
-use clearing::dockets::Docket;
-use offers::memory::{Kind, Offer, Offers};
-use offers::refusals::Refusal;
-use pricing::rules::PriceRule;
-use search::positions::Position;
-use sheets::reading::catch_up;
-use sheets::writing::write_sheet;
+use clearing::Docket;
+use offers::{Kind, Offer, Offers, Refusal};
+use pricing::PriceRule;
+use search::Position;
+use sheets::{catch_up, write_sheet};
 use std::alloc::{AllocError, Global};
 
-// It has the memory for a docket, and the docket is empty.
+/// It has the memory for a docket, and the docket is empty.
 #[derive(Drop)]
 pub struct OpenRound {
     pub(crate) offers: Offers,
@@ -22,12 +20,12 @@ pub struct OpenRound {
 
 impl OpenRound {
     ghost use Rattle.std.specs.Prelude.{IfOk};
-    ghost use Rattle.rounds.specs.Model.{File, Withdraw, CatchUp, Close, WriteSheet, Done, Written, step, beginning};
+    ghost use Rattle.rounds.specs.Model.{File, Withdraw, CatchUp, Close, WriteSheet, Done, Written, step, open_and_vacant};
     ghost use Rattle.rounds.specs.Views.{of_open, gave, gave_closing, Serves};
 
-    // A round begins open and vacant.
+    /// A round begins open and vacant.
     pub fn new(heap: Global) -> Result<OpenRound, AllocError>
-        ensures { IfOk result (λ r. of_open r ≡ beginning) }
+        ensures { IfOk result (λ r. of_open r ≡ open_and_vacant) }
     {
         Ok(OpenRound {
             offers: Offers::vacant(),
@@ -35,35 +33,35 @@ impl OpenRound {
         })
     }
 
-    // Files an offer under a number of its kind. A refusal of this or of the two calls below leaves the round as it was.
+    /// Files an offer under a number of its kind. A refusal of this or of the two calls below leaves the round as it was.
     pub fn file(&mut self, number: u8, offer: Offer) -> Result<(), Refusal>
         ensures { Serves (of_open self.old) (File number offer) (gave (of_open self.new) (Done result)) }
     {
         self.offers.file(number, offer)
     }
 
-    // Withdraws a number of a kind.
+    /// Withdraws a number of a kind.
     pub fn withdraw(&mut self, kind: Kind, number: u8) -> Result<(), Refusal>
         ensures { Serves (of_open self.old) (Withdraw kind number) (gave (of_open self.new) (Done result)) }
     {
         self.offers.withdraw(kind, number)
     }
 
-    // Takes in a whole sheet, or nothing of it.
+    /// Takes in a whole sheet, or nothing of it.
     pub fn catch_up(&mut self, sheet: &[u8]) -> Result<(), Refusal>
         ensures { Serves (of_open self.old) (CatchUp sheet.now) (gave (of_open self.new) (Done result)) }
     {
         catch_up(&mut self.offers, sheet)
     }
 
-    // Writes the sheet of the offers into the buffer's first bytes, and gives its length.
+    /// Writes the sheet of the offers into the buffer's first bytes, and gives its length.
     pub fn write_sheet(&self, buffer: &mut [u8]) -> Result<usize, Refusal>
         ensures { Serves (of_open self.now) (WriteSheet buffer.old) (gave (of_open self.now) (Written result buffer.new)) }
     {
         write_sheet(&self.offers, buffer)
     }
 
-    // Closes the round with a price rule, or gives it back as it was.
+    /// Closes the round with a price rule, or gives it back as it was.
     pub fn close<P: PriceRule>(self, rule: &mut P) -> Result<ClosedRound, (OpenRound, Refusal)>
         ensures served { Serves (of_open self) (Close (P.PriceRule.meaning rule.old)) (gave_closing result) }
         ensures same_rule { P.PriceRule.meaning rule.new ≡ P.PriceRule.meaning rule.old }

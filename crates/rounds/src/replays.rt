@@ -1,19 +1,19 @@
-// Whole runs of requests, from an open and vacant round.
+//! Whole runs of requests, from an open and vacant round.
 ghost use Rattle.std.specs.Prelude.{◌≡◌, map, IfOk};
-ghost use Rattle.offers.specs.Memory.{held};
+ghost use Rattle.offers.specs.Memory.{entries_in};
 ghost use Rattle.rounds.specs.Model.{stage_in};
 ghost use Rattle.rounds.specs.Requests.{of_round, call_of};
 ghost use Rattle.rounds.specs.Replays.{of_stage, Replays};
 
 use crate::open_round::OpenRound;
 use crate::requests::{Reply, Request, Round, serve};
-use bounds::blocks::BoundingRule;
-use offers::memory::Offers;
-use pricing::rules::PriceRule;
-use search::positions::Position;
+use bounds::BoundingRule;
+use offers::Offers;
+use pricing::PriceRule;
+use search::Position;
 use std::alloc::{AllocError, Global};
 
-// Where a round stands between two calls.
+/// Where a round stands between two calls.
 #[derive(Clone, Copy)]
 pub enum Stage {
     Open,
@@ -21,7 +21,7 @@ pub enum Stage {
     Awarded(Position),
 }
 
-// A moment of a run: what a request was answered, and the round right after it.
+/// A moment of a run: what a request was answered, and the round right after it.
 #[derive(Drop)]
 pub struct Moment {
     pub reply: Reply,
@@ -29,7 +29,7 @@ pub struct Moment {
     pub stage: Stage,
 }
 
-// A whole run: the round in the end, and every moment of it.
+/// A whole run: the round in the end, and every moment of it.
 #[derive(Drop)]
 pub struct Run {
     pub round: Round,
@@ -37,9 +37,9 @@ pub struct Run {
 }
 
 impl Round {
-    // What the round holds.
+    /// What the round holds.
     pub fn offers(&self) -> Offers
-        ensures { held result ≡ (of_round self.now).entries }
+        ensures { entries_in result ≡ (of_round self.now).entries }
     {
         match self {
             Round::Open(round) => round.offers,
@@ -48,7 +48,7 @@ impl Round {
         }
     }
 
-    // Where it stands.
+    /// Where it stands.
     pub fn stage(&self) -> Stage
         ensures { of_stage result ≡ stage_in (of_round self.now).state }
     {
@@ -60,9 +60,9 @@ impl Round {
     }
 }
 
-// Who wants to know how far a run is; `()` wants to know nothing.
+/// Who wants to know how far a run is; `()` wants to know nothing.
 pub trait Watch {
-    // Requests made of all.
+    /// Requests made of all.
     fn made(&mut self, requests: usize, all: usize);
 }
 
@@ -70,7 +70,7 @@ impl Watch for () {
     fn made(&mut self, _requests: usize, _all: usize) {}
 }
 
-// Makes a whole run from an open and vacant round, and keeps every moment of it.
+/// Makes a whole run from an open and vacant round, and keeps every moment of it.
 pub fn replay<P: PriceRule + Drop, B: BoundingRule + Drop, W: Watch>(
     heap: Global,
     requests: Vec<Request<P, B>>,

@@ -1,4 +1,4 @@
-// Requests to a round in whatever state.
+//! Requests to a round in whatever state.
 ghost use Rattle.std.specs.Prelude.{◌≡◌};
 ghost use Rattle.rounds.specs.Model.{step};
 ghost use Rattle.rounds.specs.Requests.{of_round, call_of, answer_of};
@@ -7,12 +7,11 @@ ghost use Rattle.rounds.specs.Views.{of_open, of_closed, of_awarded, gave, Serve
 use crate::awarded_round::{Award, AwardedRound};
 use crate::closed_round::{ClosedRound, Searched};
 use crate::open_round::OpenRound;
-use bounds::blocks::BoundingRule;
-use offers::memory::{Kind, Offer};
-use offers::refusals::Refusal;
-use pricing::rules::PriceRule;
+use bounds::BoundingRule;
+use offers::{Kind, Offer, Refusal};
+use pricing::PriceRule;
 
-// A round in any state.
+/// A round in any state.
 #[derive(Drop)]
 pub enum Round {
     Open(OpenRound),
@@ -20,7 +19,7 @@ pub enum Round {
     Awarded(AwardedRound),
 }
 
-// What a caller asks, with the rules and buffers for it.
+/// What a caller asks, with the rules and buffers for it.
 #[derive(Drop)]
 pub enum Request<P, B> {
     File(u8, Offer),
@@ -33,7 +32,7 @@ pub enum Request<P, B> {
     WriteSheet(Vec<u8>),
 }
 
-// What it is answered, with its row or buffer as the call left it; one that comes with a call that is not taken is not given back.
+/// What it is answered, with its row or buffer as the call left it; one that comes with a call that is not taken is not given back.
 #[derive(Drop)]
 pub enum Reply {
     Done(Result<(), Refusal>),
@@ -44,7 +43,7 @@ pub enum Reply {
     NotTaken,
 }
 
-// One request to a round in whatever state.
+/// One request to a round in whatever state.
 pub fn serve<P: PriceRule + Drop, B: BoundingRule + Drop>(
     round: Round,
     request: Request<P, B>,

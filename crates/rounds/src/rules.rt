@@ -1,14 +1,13 @@
-// Different rules in one run.
-ghost use Rattle.std.specs.Prelude.{◌≡◌, ℕ, ℤ, Result as Answer};
+//! Different rules in one run.
 ghost use Rattle.rounds.specs.Rules.{either_answers, either_sound, either_meaning, either_level, either_bounded};
 
-use bounds::blocks::{Block, BoundingRule};
-use clearing::dockets::Docket;
-use offers::records::Package;
-use pricing::rules::{Fault, PriceRule};
+use bounds::{Block, BoundingRule};
+use clearing::Docket;
+use offers::Package;
+use pricing::{Fault, PriceRule};
 
-// One of two rules. A run of requests has one type of rule; with this it has as many as it wants. It is no rule of its own: it
-// adds no depth to a stack of price rules.
+/// One of two rules. A run of requests has one type of rule; with this it has as many as it wants. It is no rule of its own: it
+/// adds no depth to a stack of price rules.
 #[derive(Clone, Copy)]
 pub enum OneOf<P, Q> {
     First(P),
@@ -35,10 +34,10 @@ impl<P: PriceRule, Q: PriceRule> PriceRule for OneOf<P, Q> {
 
     ghost bounded = { either_bounded P.PriceRule.meaning Q.PriceRule.meaning P.PriceRule.bounded Q.PriceRule.bounded };
 
-    fn price(&mut self, package: &Package) -> Result<i64, Fault> {
+    fn price(&mut self, terms: &Package) -> Result<i64, Fault> {
         match self {
-            OneOf::First(rule) => rule.price(package),
-            OneOf::Second(rule) => rule.price(package),
+            OneOf::First(rule) => rule.price(terms),
+            OneOf::Second(rule) => rule.price(terms),
         }
     }
 

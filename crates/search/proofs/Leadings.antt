@@ -13,7 +13,7 @@ use Rattle.clearing.proofs.FillingSums.{all_of}
 use Rattle.clearing.proofs.Incomes.{income-none}
 use Rattle.clearing.proofs.Ranged.{Ranged, filled-most}
 use Rattle.bounds.specs.Blocks.{Span, Answers, InDocket, InBlock, Claims}
-use Rattle.search.specs.Search.{Standing, Placed, Leads, start, next_block, hopeless, settle, lead, step}
+use Rattle.search.specs.Search.{Standing, Placed, Leads, start_position, next_block, can_skip, after_settling, after_trial, after_step}
 use Rattle.search.proofs.Placings.{step_cases}
 
 -- choice 0 takes nothing
@@ -39,7 +39,7 @@ none_lawful v sales within none = record {
 -- so many choices more are settled under the same leader if none of them is worth more
 stay_leads : (v : View) (at : Standing) (more : ℕ) → Leads v at
     → ((other : ℕ) (sales : List ℕ) → at.settled ≤ other → other < at.settled + more → Lawful v other sales → surplus v other sales ≤ℤ at.surplus)
-    → Leads v (settle at more)
+    → Leads v (after_settling at more)
 stay_leads v at more leads none = record {
   best = record {
     below = omega (arith, leads.best.below);
@@ -65,11 +65,11 @@ up_to : (a b c : ℤ) → a ≤ℤ b → le_z b c ≡ true → a ≤ℤ c
 up_to a b c most e = grind (arith, ints)
 
 -- what is at most a worth that is tested not to be above the leader's surplus is at most that
-not-above : (a c lead worth : ℤ) → a ≤ℤ c → lt_z lead worth ≡ false → worth ≡ c → a ≤ℤ lead
-not-above a c lead worth most e known = grind (arith, ints)
+not-above : (a c after_trial worth : ℤ) → a ≤ℤ c → lt_z after_trial worth ≡ false → worth ≡ c → a ≤ℤ after_trial
+not-above a c after_trial worth most e known = grind (arith, ints)
 
 -- no lawful choice of a hopeless block is worth more than the leader
-hopeless-less : (v : View) (b : Span) (answer : Option ℤ) (worth : ℤ) → Claims v b answer → hopeless answer worth ≡ true
+hopeless-less : (v : View) (b : Span) (answer : Option ℤ) (worth : ℤ) → Claims v b answer → can_skip answer worth ≡ true
     → (other : ℕ) (sales : List ℕ) → InBlock b other → Lawful v other sales → surplus v other sales ≤ℤ worth
 hopeless-less v b None worth claims e other sales inside lawful = absurd (claims other sales inside lawful)
 hopeless-less v b (Some cap) worth claims e other sales inside lawful =
@@ -83,7 +83,7 @@ module _ (v : View) (ranged : Ranged v) where
       subst (λ T. sold v.bands (filled_sales v 0) m ≤ supply m T) (taken_none v.packages) within
 
   -- choice 0 is the best of itself
-  pub start-leads : Leads v start
+  pub start-leads : Leads v start_position
   start-leads = record {
     best = record {
       below = omega arith;
@@ -98,14 +98,14 @@ module _ (v : View) (ranged : Ranged v) where
   }
 
   -- one choice more is settled under the same leader if it is not worth more
-  one_stays : (at : Standing) → Leads v at → ((sales : List ℕ) → Lawful v at.settled sales → surplus v at.settled sales ≤ℤ at.surplus) → Leads v (settle at 1)
+  one_stays : (at : Standing) → Leads v at → ((sales : List ℕ) → Lawful v at.settled sales → surplus v at.settled sales ≤ℤ at.surplus) → Leads v (after_settling at 1)
   one_stays at leads most =
       stay_leads v at 1 leads
       (λ other sales from to. same_choice v at.settled other sales at.surplus (omega arith) (most sales))
 
   -- one that is lawful and worth more leads, since all before it are worth less
   one_leads : (at : Standing) (worth : ℤ) → Worth v at.settled (Some worth) → Leads v at → lt_z at.surplus worth ≡ true
-      → Leads v (settle (record { settled = at.settled; free = at.free; leader = at.settled; surplus = worth }) 1)
+      → Leads v (after_settling (record { settled = at.settled; free = at.free; leader = at.settled; surplus = worth }) 1)
   one_leads at worth known leads e =
       record {
         best = record {
@@ -124,23 +124,23 @@ module _ (v : View) (ranged : Ranged v) where
       }
 
   -- a choice that is tried leads if it is lawful and worth more
-  try_leads : (at : Standing) (worth : Option ℤ) → Worth v at.settled worth → Leads v at → Leads v (settle (lead at worth) 1)
+  try_leads : (at : Standing) (worth : Option ℤ) → Worth v at.settled worth → Leads v at → Leads v (after_settling (after_trial at worth) 1)
   try_leads at None never leads = one_stays at leads (λ sales lawful. absurd (never sales lawful))
   try_leads at (Some worth) known leads =
-      cond_both (lt_z at.surplus worth) _ _ (λ (a : Standing). Leads v (settle a 1))
+      cond_both (lt_z at.surplus worth) _ _ (λ (a : Standing). Leads v (after_settling a 1))
       (one_leads at worth known leads)
       (λ e. one_stays at leads (λ sales lawful. not-above _ _ at.surplus worth (filled-most v ranged at.settled sales lawful) e known.1))
 
   module _ (rule : Answers) (judged : (c : ℕ) → Worth v c (worth_of v c)) (sound : (b : Span) → InDocket v b → Claims v b (rule v b)) where
     -- a hopeless block is settled without a look
-    skip_leads : (at : Standing) → Placed v at → at.settled < choices v → Leads v at → hopeless (rule v (next_block at)) at.surplus ≡ true → Leads v (settle at (2 ^ at.free))
+    skip_leads : (at : Standing) → Placed v at → at.settled < choices v → Leads v at → can_skip (rule v (next_block at)) at.surplus ≡ true → Leads v (after_settling at (2 ^ at.free))
     skip_leads at placed below leads e =
         let b = next_block at in
         stay_leads v at (2 ^ at.free) leads
         (λ other sales from to. hopeless-less v b (rule v b) at.surplus (sound b (placed.block below)) e other sales (record { from = from; below = to }))
 
     -- a step keeps the leader the best
-    pub step-leads : (at : Standing) → Placed v at → at.settled < choices v → Leads v at → Leads v (step rule v at)
+    pub step-leads : (at : Standing) → Placed v at → at.settled < choices v → Leads v at → Leads v (after_step rule v at)
     step-leads at placed below leads =
         step_cases rule v (Leads v) at
         (skip_leads at placed below leads)

@@ -6,11 +6,11 @@ use Rattle.clearing.specs.Judging.{worth_of}
 use Rattle.clearing.specs.Lawful.{View, choices}
 use Rattle.bounds.specs.Blocks.{Answers}
 use Rattle.bounds.specs.Gains.{divides_less}
-use Rattle.search.specs.Search.{Standing, Placed, start, next_block, hopeless, settle, halve, lead, step, finished, steps}
+use Rattle.search.specs.Search.{Standing, Placed, start_position, next_block, can_skip, after_settling, after_halving, after_trial, after_step, finished, after_steps}
 use Rattle.search.proofs.Zeros.{trailing_divides, trailing_small, power_room, power-smaller}
 
 -- whoever leads, as many are settled
-pub lead_settled : (at : Standing) (worth : Option ℤ) → (lead at worth).settled ≡ at.settled
+pub lead_settled : (at : Standing) (worth : Option ℤ) → (after_trial at worth).settled ≡ at.settled
 lead_settled at None = refl
 lead_settled at (Some worth) = cond_both (lt_z at.surplus worth) _ _ (λ (a : Standing). a.settled ≡ at.settled) (λ _. refl) (λ _. refl)
 
@@ -21,7 +21,7 @@ pub record Moved (from at : Standing) (count : ℕ) : Type 0 where
 
 module _ (v : View) where
   -- a search starts placed
-  pub start-placed : Placed v start
+  pub start-placed : Placed v start_position
   start-placed = record {
     some = omega arith;
     most = pow_pos (length v.packages);
@@ -29,7 +29,7 @@ module _ (v : View) where
   }
 
   -- with more choices settled it stays placed, whatever the next block was
-  more_placed : (at : Standing) (more : ℕ) → 1 ≤ at.settled → at.settled + more ≤ choices v → Placed v (settle at more)
+  more_placed : (at : Standing) (more : ℕ) → 1 ≤ at.settled → at.settled + more ≤ choices v → Placed v (after_settling at more)
   more_placed at more some most = record {
     some = omega arith;
     most = most;
@@ -49,7 +49,7 @@ module _ (v : View) where
       power_room at.settled at.free (length v.packages) b.zeros below b.few
 
   -- with the block halved it stays placed
-  halve-placed : (at : Standing) → Placed v at → 0 < at.free → Placed v (halve at)
+  halve-placed : (at : Standing) → Placed v at → 0 < at.free → Placed v (after_halving at)
   halve-placed at placed some = record {
     some = placed.some;
     most = placed.most;
@@ -65,34 +65,34 @@ module _ (v : View) where
 module _ (rule : Answers) (v : View) where
   -- a step is one of three: the block is skipped if it is hopeless, else halved if it has free digits, else its choice is tried
   pub step_cases : (P : Standing → Type 0) (at : Standing)
-      → (hopeless (rule v (next_block at)) at.surplus ≡ true → P (settle at (2 ^ at.free)))
-      → (0 < at.free → P (halve at))
-      → (at.free ≡ 0 → P (settle (lead at (worth_of v at.settled)) 1))
-      → P (step rule v at)
+      → (can_skip (rule v (next_block at)) at.surplus ≡ true → P (after_settling at (2 ^ at.free)))
+      → (0 < at.free → P (after_halving at))
+      → (at.free ≡ 0 → P (after_settling (after_trial at (worth_of v at.settled)) 1))
+      → P (after_step rule v at)
   step_cases P at skip half try =
-      cond_both (hopeless (rule v (next_block at)) at.surplus) _ _ P skip
+      cond_both (can_skip (rule v (next_block at)) at.surplus) _ _ P skip
       (λ _. cond_both (ltb 0 at.free) _ _ P (λ e. half (ltb-true 0 at.free e)) (λ e. try (omega (arith, ltb-false 0 at.free e))))
 
   -- a step leaves the search placed
-  pub step-placed : (at : Standing) → Placed v at → at.settled < choices v → Placed v (step rule v at)
+  pub step-placed : (at : Standing) → Placed v at → at.settled < choices v → Placed v (after_step rule v at)
   step-placed at placed below =
       let same = lead_settled at (worth_of v at.settled) in
       step_cases (Placed v) at
       (λ _. more_placed v at (2 ^ at.free) placed.some (block_inside v at placed below))
       (halve-placed v at placed)
-      (λ _. more_placed v (lead at (worth_of v at.settled)) 1 (rw same placed.some) (rw same (omega arith)))
+      (λ _. more_placed v (after_trial at (worth_of v at.settled)) 1 (rw same placed.some) (rw same (omega arith)))
 
   -- a finished search stays where it is
-  pub finished-stays : (count : ℕ) (at : Standing) → finished v at ≡ true → steps rule v count at ≡ at
+  pub finished-stays : (count : ℕ) (at : Standing) → finished v at ≡ true → after_steps rule v count at ≡ at
   finished-stays zero at e = refl
   finished-stays (suc count) at e = cond-true (finished v at) _ _ e
 
   -- any other goes on
-  pub goes_on : (count : ℕ) (at : Standing) → finished v at ≡ false → steps rule v (suc count) at ≡ steps rule v count (step rule v at)
+  pub goes_on : (count : ℕ) (at : Standing) → finished v at ≡ false → after_steps rule v (suc count) at ≡ after_steps rule v count (after_step rule v at)
   goes_on count at e = cond-false (finished v at) _ _ e
 
   -- a step settles some choice, or leaves a smaller block
-  step_moves : (at : Standing) → Moved at (step rule v at) 1
+  step_moves : (at : Standing) → Moved at (after_step rule v at) 1
   step_moves at =
       step_cases (λ a. Moved at a 1) at
       (λ _. record { lasts = omega arith; smaller = λ same. absurd (omega (arith, pow_pos at.free)) })
@@ -102,7 +102,7 @@ module _ (rule : Answers) (v : View) where
       record { lasts = omega arith; smaller = λ same. absurd (omega arith) })
 
   -- and one step more is one more
-  pub moves_on : (from at : Standing) (count : ℕ) → Moved from at count → Moved from (step rule v at) (count + 1)
+  pub moves_on : (from at : Standing) (count : ℕ) → Moved from at count → Moved from (after_step rule v at) (count + 1)
   moves_on from at count before =
       let next = step_moves at in
       record { lasts = omega arith; smaller = λ same. omega (arith, before.smaller (omega arith), next.smaller (omega arith)) }

@@ -1,5 +1,5 @@
 -- The search: what holds wherever it stands, and how a step moves it. Assumes nothing.
-use Rattle.std.specs.Prelude.{◌≡◌, ℕ, zero, suc, ◌+◌, ◌-◌, ◌*◌, ◌^◌, ◌<◌, ◌≤◌, Bool, true, cond, ℤ, pos, Some, None, Option, ◌==◌, int_le, nat_lt}
+use Rattle.std.specs.Prelude.{◌≡◌, ℕ, zero, suc, ◌+◌, ◌-◌, ◌*◌, ◌^◌, ◌<◌, ◌≤◌, Bool, true, ℤ, pos, Some, None, Option, ◌==◌, int_le, nat_lt, if◌then◌else◌}
 use Rattle.std.specs.Int.Count.{count_trailing_zeros}
 use Rattle.std.specs.Int.Signed.{lt_z}
 use Rattle.clearing.specs.Judging.{worth_of}
@@ -8,8 +8,8 @@ use Rattle.bounds.specs.Blocks.{Span, Answers, InDocket}
 use Rattle.search.specs.declared.positions.Position.{Position}
 
 -- a number that falls with each step: more choices are settled, or the next block is half as long
-abbrev pub left : Position → ℕ
-left at = (2 ^ 41 - at.settled) * 64 + at.free
+abbrev pub work_left : Position → ℕ
+work_left at = (2 ^ 41 - at.settled) * 64 + at.free
 
 -- Where a search stands, as plain numbers.
 pub record Standing : Type 0 where
@@ -47,17 +47,17 @@ abbrev pub Leads : View → Standing → Type 0
 Leads v at = Leading v at.settled at
 
 -- choice 0, which takes nothing, is settled and leads
-abbrev pub start : Standing
-start = record { settled = 1; free = 0; leader = 0; surplus = pos 0 }
+abbrev pub start_position : Standing
+start_position = record { settled = 1; free = 0; leader = 0; surplus = pos 0 }
 
 -- a block is not worth a look if it has no lawful choice, or none above the leader
-abbrev pub hopeless : Option ℤ → ℤ → Bool
-hopeless None surplus = true
-hopeless (Some cap) surplus = int_le cap surplus
+abbrev pub can_skip : Option ℤ → ℤ → Bool
+can_skip None surplus = true
+can_skip (Some cap) surplus = int_le cap surplus
 
 -- so many choices more are settled; the next block has a free digit for each zero that ends their count
-abbrev pub settle : Standing → ℕ → Standing
-settle at more = record {
+abbrev pub after_settling : Standing → ℕ → Standing
+after_settling at more = record {
   settled = at.settled + more;
   free = count_trailing_zeros 64 (at.settled + more);
   leader = at.leader;
@@ -65,28 +65,28 @@ settle at more = record {
 }
 
 -- the first half of the block is next
-abbrev pub halve : Standing → Standing
-halve at = record { settled = at.settled; free = at.free - 1; leader = at.leader; surplus = at.surplus }
+abbrev pub after_halving : Standing → Standing
+after_halving at = record { settled = at.settled; free = at.free - 1; leader = at.leader; surplus = at.surplus }
 
 -- the next choice leads if it is lawful and worth more than the leader
-abbrev pub lead : Standing → Option ℤ → Standing
-lead at None = at
-lead at (Some worth) =
-    cond (lt_z at.surplus worth) (record { settled = at.settled; free = at.free; leader = at.settled; surplus = worth }) at
+abbrev pub after_trial : Standing → Option ℤ → Standing
+after_trial at None = at
+after_trial at (Some worth) =
+    if lt_z at.surplus worth then record { settled = at.settled; free = at.free; leader = at.settled; surplus = worth } else at
 
 -- One step: the rule is consulted on the next block, which is then skipped, halved, or, where it has one choice, tried.
-abbrev pub step : Answers → View → Standing → Standing
-step rule v at =
-    cond (hopeless (rule v (next_block at)) at.surplus) (settle at (2 ^ at.free))
-    (cond (nat_lt 0 at.free) (halve at) (settle (lead at (worth_of v at.settled)) 1))
+abbrev pub after_step : Answers → View → Standing → Standing
+after_step rule v at =
+    if can_skip (rule v (next_block at)) at.surplus then after_settling at (2 ^ at.free)
+    else if nat_lt 0 at.free then after_halving at else after_settling (after_trial at (worth_of v at.settled)) 1
 
 -- every choice is settled
 abbrev pub finished : View → Standing → Bool
 finished v at = at.settled == choices v
 
 -- so many steps, or fewer if it finishes before
-abbrev pub steps : Answers → View → ℕ → Standing → Standing
-steps rule v zero at = at
-steps rule v (suc count) at =
-    let rest : Standing = steps rule v count (step rule v at) in
-    cond (finished v at) at rest
+abbrev pub after_steps : Answers → View → ℕ → Standing → Standing
+after_steps rule v zero at = at
+after_steps rule v (suc count) at =
+    let rest : Standing = after_steps rule v count (after_step rule v at) in
+    (if finished v at then at else rest)

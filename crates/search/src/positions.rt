@@ -1,18 +1,20 @@
-// Where a search stands, and how it moves: a block is skipped, halved, or its one choice tried.
-ghost use Rattle.std.specs.Prelude.{◌≡◌, ◌+◌, ◌^◌, ◌<◌, ◌≤◌};
+//! A search for the best lawful choice: where it stands, and how it goes on. The rule is consulted on the next block, which is then
+//! skipped, halved, or its one choice tried.
+ghost use Rattle.std.specs.Prelude.{◌≡◌, ◌+◌, ◌^◌, ◌<◌, ◌≤◌, vec_len};
+ghost use Rattle.clearing.specs.Lawful.{view, choices};
 ghost use Rattle.std.specs.Int.Count.{count_trailing_zeros};
 
-use clearing::dockets::Docket;
-use clearing::lawful::worth;
+use bounds::{Block, BoundingRule};
+use clearing::{Docket, worth};
 
-// Where a search stands: the choices below `settled` are settled, and the leader is the best of them.
+/// Where a search stands: the choices below `settled` are settled, and the leader is the best of them.
 #[derive(Clone, Copy)]
 pub struct Position {
     pub settled: u64,
-    // the free digits of the block that is next
+    /// the free digits of the block that is next
     pub free: u8,
     pub leader: u64,
-    // pesos, of the leader
+    /// pesos, of the leader
     pub surplus: i64,
     ghost within: { settled ≤ 2 ^ 41 },
     ghost few: { free ≤ 40 },
@@ -21,11 +23,11 @@ pub struct Position {
 impl Position {
     ghost use Rattle.clearing.specs.Judging.{worth_of};
     ghost use Rattle.clearing.specs.Lawful.{view};
-    ghost use Rattle.search.specs.Search.{left, standing, start as beginning, settle as settling, halve as halving, lead as leading};
+    ghost use Rattle.search.specs.Search.{work_left, standing, start_position, after_settling, after_halving, after_trial};
 
-    // A search begins with choice 0, which takes nothing, settled and leading.
+    /// A search begins with choice 0, which takes nothing, settled and leading.
     pub fn start() -> Position
-        ensures { standing result ≡ beginning }
+        ensures { standing result ≡ start_position }
     {
         Position {
             settled: 1,
@@ -39,28 +41,28 @@ impl Position {
     fn settle(mut self, more: u64) -> Position
         requires { self.settled + more ≤ 2 ^ 41 }
         ensures count { result.settled ≡ self.settled + more }
-        ensures value { 0 < self.settled + more → self.settled + more ≤ 2 ^ 40 → standing result ≡ settling (standing self) more }
+        ensures value { 0 < self.settled + more → self.settled + more ≤ 2 ^ 40 → standing result ≡ after_settling (standing self) more }
     {
         self.settled += more;
         self.free = zero_digits(self.settled);
         self
     }
 
-    // The block is settled. This and two calls below ask for a search that is not finished: a finished one is a position too, so
-    // no invariant says it.
+    /// The block is settled. This and two calls below ask for a search that is not finished: a finished one is a position too, so
+    /// no invariant says it.
     pub(crate) fn skip(self) -> Position
         requires { self.settled < 2 ^ 40 }
-        ensures falls { left result < left self }
-        ensures value { self.settled + 2 ^ self.free ≤ 2 ^ 40 → standing result ≡ settling (standing self) (2 ^ self.free) }
+        ensures falls { work_left result < work_left self }
+        ensures value { self.settled + 2 ^ self.free ≤ 2 ^ 40 → standing result ≡ after_settling (standing self) (2 ^ self.free) }
     {
         self.settle(1u64 << self.free)
     }
 
-    // The first half of the block is next.
+    /// The first half of the block is next.
     pub(crate) fn halve(mut self) -> Position
         requires { 0 < self.free }
-        ensures falls { left result < left self }
-        ensures value { standing result ≡ halving (standing self) }
+        ensures falls { work_left result < work_left self }
+        ensures value { standing result ≡ after_halving (standing self) }
     {
         self.free -= 1;
         self
@@ -68,7 +70,7 @@ impl Position {
 
     // The next choice leads if it is lawful and worth more than the leader.
     fn lead(mut self, docket: &Docket) -> Position
-        ensures { standing result ≡ leading (standing self) (worth_of (view docket.now) self.settled) }
+        ensures { standing result ≡ after_trial (standing self) (worth_of (view docket.now) self.settled) }
     {
         if let Some(surplus) = worth(docket, self.settled)
             && surplus > self.surplus
@@ -79,14 +81,70 @@ impl Position {
         self
     }
 
-    // The one choice of the block leads if it is lawful and worth more than the leader, and it is settled.
+    /// The one choice of the block leads if it is lawful and worth more than the leader, and it is settled.
     pub(crate) fn try_choice(self, docket: &Docket) -> Position
         requires { self.settled < 2 ^ 40 }
-        ensures falls { left result < left self }
-        ensures value { standing result ≡ settling (leading (standing self) (worth_of (view docket.now) self.settled)) 1 }
+        ensures falls { work_left result < work_left self }
+        ensures value { standing result ≡ after_settling (after_trial (standing self) (worth_of (view docket.now) self.settled)) 1 }
     {
         self.lead(docket).settle(1)
     }
+}
+
+impl Position {
+    ghost use Rattle.std.specs.Prelude.{length, vec_len};
+    ghost use Rattle.clearing.specs.Closing.{ByClosing};
+    ghost use Rattle.clearing.specs.Lawful.{view, choices};
+    ghost use Rattle.search.specs.Search.{Placed, Leads, work_left, standing, after_step, after_steps};
+
+    /// Makes the steps that it is given, or fewer if every choice is settled before. As many steps as there are packages settle
+    /// at least one choice, and a leader that was the best of the settled choices is so again.
+    pub fn run<B: BoundingRule>(self, docket: &Docket, rule: &mut B, steps: u32) -> Position
+        ensures value { Placed (view docket.now) (standing self) → standing result ≡ after_steps (B.BoundingRule.answers rule.old) (view docket.now) steps (standing self) }
+        ensures falls { 0 < steps → self.settled < 2 ^ vec_len docket.now.packages.list → work_left result < work_left self }
+        ensures settles { Placed (view docket.now) (standing self) → self.settled < choices (view docket.now) → length (view docket.now).packages ≤ steps → self.settled < result.settled }
+        ensures placed { Placed (view docket.now) (standing self) → Placed (view docket.now) (standing result) }
+        ensures leads { Placed (view docket.now) (standing self) → ByClosing (view docket.now) → Leads (view docket.now) (standing self) → Leads (view docket.now) (standing result) }
+        ensures same_rule { B.BoundingRule.answers rule.new ≡ B.BoundingRule.answers rule.old }
+    {
+        let all = choices(docket);
+        let mut at = self;
+        for _ in 0..steps {
+            if at.settled >= all {
+                break;
+            }
+            at = at.step(docket, rule);
+        }
+        at
+    }
+
+    // One step of a search that is not finished.
+    fn step<B: BoundingRule>(self, docket: &Docket, rule: &mut B) -> Position
+        requires { self.settled < 2 ^ 40 }
+        ensures falls { work_left result < work_left self }
+        ensures value { Placed (view docket.now) (standing self) → self.settled < choices (view docket.now) → standing result ≡ after_step (B.BoundingRule.answers rule.old) (view docket.now) (standing self) }
+        ensures same_rule { B.BoundingRule.answers rule.new ≡ B.BoundingRule.answers rule.old }
+    {
+        let block = Block {
+            first: self.settled,
+            free: self.free,
+        };
+        match rule.consult(docket, block) {
+            None => self.skip(),
+            Some(cap) if cap <= self.surplus => self.skip(),
+            Some(_) if self.free > 0 => self.halve(),
+            Some(_) => self.try_choice(docket),
+        }
+    }
+}
+
+/// The choices of a docket.
+pub fn choices(docket: &Docket) -> u64
+    ensures value { result ≡ 2 ^ vec_len docket.now.packages.list }
+    ensures count { result ≡ choices (view docket.now) }
+    ensures bound { result ≤ 2 ^ 40 }
+{
+    1u64 << docket.packages.list.len()
 }
 
 // The count of zero digits that end a choice number.

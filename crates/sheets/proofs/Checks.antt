@@ -7,8 +7,8 @@ use Rattle.offers.specs.Fields.{within}
 use Rattle.offers.specs.Layouts.{Layout, fault_of}
 use Rattle.offers.specs.Refusals.{Carries}
 use Rattle.offers.specs.Registers.{entry, numbered}
-use Rattle.sheets.specs.declared.fields.Mark.{Mark}
-use Rattle.sheets.specs.Fields.{Check, rises, agrees, joined, number_in, status_in, withdrawn_in, record_in, first_failed, content_checks, take_in}
+use Rattle.sheets.specs.declared.fields.Cursor.{Cursor}
+use Rattle.sheets.specs.Fields.{Check, rises, agrees, joined_entry, number_in, status_in, withdrawn_in, record_in, first_failed, content_checks, enter_content}
 
 -- every check of a row is passed
 abbrev AllPassed : List Check → Type 0
@@ -33,40 +33,40 @@ all_passed (c ∷ cs) e =
     (here.0, all_passed cs here.1)
 
 -- what a content passes that is taken
-pub record Passed {R : Type 0} (k : Layout R) (es : List (Entry R)) (last : Mark) (content : List ℕ) : Type 0 where
+pub record Passed {R : Type 0} (k : Layout R) (es : List (Entry R)) (cursor : Cursor) (content : List ℕ) : Type 0 where
   pub has_entry : numbered k es (number_in content) ≡ true
-  pub rising : rises last k.tag (number_in content) ≡ true
+  pub rising : rises cursor k.tag (number_in content) ≡ true
   pub status : within 1 2 (status_in content) ≡ true
   pub fine : fault_of k (record_in k content) ≡ 0
   pub accord : agrees k (entry es (number_in content)) (record_in k content) ≡ true
 
 -- a number answered is that of the content, which passed
-pub record Accepted {R : Type 0} (k : Layout R) (es : List (Entry R)) (last : Mark) (content : List ℕ) (n : ℕ) : Type 0 where
-  pub passed : Passed k es last content
+pub record Accepted {R : Type 0} (k : Layout R) (es : List (Entry R)) (cursor : Cursor) (content : List ℕ) (n : ℕ) : Type 0 where
+  pub passed : Passed k es cursor content
   pub is_number : n ≡ number_in content
 
-module _ {R : Type 0} (k : Layout R) (es : List (Entry R)) (last : Mark) (content : List ℕ) where
+module _ {R : Type 0} (k : Layout R) (es : List (Entry R)) (cursor : Cursor) (content : List ℕ) where
   -- no check fails of a content that passes
-  passes : Passed k es last content → first_failed (content_checks k es last content) ≡ None
+  passes : Passed k es cursor content → first_failed (content_checks k es cursor content) ≡ None
   passes p =
-      none_failed (content_checks k es last content)
+      none_failed (content_checks k es cursor content)
       (p.has_entry, (p.rising, (p.status, (eq-eqb (fault_of k (record_in k content)) 0 p.fine, (p.accord, tt)))))
 
   -- so its number is the answer
-  pub passed-answer : Passed k es last content → (take_in k es last content).answer ≡ Ok (number_in content)
+  pub passed-answer : Passed k es cursor content → (enter_content k es cursor content).answer ≡ Ok (number_in content)
   passed-answer p = rw (passes p)
 
   -- and its number's entry is joined with its record
-  pub passed-left : Passed k es last content → (take_in k es last content).left ≡ set es (number_in content - 1) (joined (entry es (number_in content)) (withdrawn_in content) (record_in k content))
+  pub passed-left : Passed k es cursor content → (enter_content k es cursor content).after ≡ set es (number_in content - 1) (joined_entry (entry es (number_in content)) (withdrawn_in content) (record_in k content))
   passed-left p = rw (passes p)
 
   -- only a content that passes is answered by a number
-  pub accepted : (n : ℕ) → (take_in k es last content).answer ≡ Ok n → Accepted k es last content n
-  accepted n = by (first_failed (content_checks k es last content)) refl
+  pub accepted : (n : ℕ) → (enter_content k es cursor content).answer ≡ Ok n → Accepted k es cursor content n
+  accepted n = by (first_failed (content_checks k es cursor content)) refl
     where
-      by : (o : Option Refusal) → first_failed (content_checks k es last content) ≡ o → (take_in k es last content).answer ≡ Ok n → Accepted k es last content n
+      by : (o : Option Refusal) → first_failed (content_checks k es cursor content) ≡ o → (enter_content k es cursor content).answer ≡ Ok n → Accepted k es cursor content n
       by None e answer =
-          let all = all_passed (content_checks k es last content) e in
+          let all = all_passed (content_checks k es cursor content) e in
           let same : ◌≡◌ {A = Result ℕ Refusal} (Ok (number_in content)) (Ok n) = rw e at answer in
           record {
             passed = record {
@@ -107,15 +107,15 @@ failed_fair : (cs : List Check) → AllFair cs → FairFailure (first_failed cs)
 failed_fair [] h = tt
 failed_fair (c ∷ cs) h = cond_both c.passed _ _ FairFailure (λ _. failed_fair cs h.1) (λ _. h.0)
 
-module _ {R : Type 0} (k : Layout R) (es : List (Entry R)) (last : Mark) (content : List ℕ) where
+module _ {R : Type 0} (k : Layout R) (es : List (Entry R)) (cursor : Cursor) (content : List ℕ) where
   -- the refusals of a content: outside, not rising, a bad status, a bad record, a clash
-  checks_fair : AllFair (content_checks k es last content)
+  checks_fair : AllFair (content_checks k es cursor content)
   checks_fair = search rules
 
   -- so what a content answers is fair
-  pub take_in_fair : Fair (take_in k es last content).answer
-  take_in_fair = by (first_failed (content_checks k es last content)) refl (failed_fair (content_checks k es last content) checks_fair)
+  pub enter_content_fair : Fair (enter_content k es cursor content).answer
+  enter_content_fair = by (first_failed (content_checks k es cursor content)) refl (failed_fair (content_checks k es cursor content) checks_fair)
     where
-      by : (o : Option Refusal) → first_failed (content_checks k es last content) ≡ o → FairFailure o → Fair (take_in k es last content).answer
+      by : (o : Option Refusal) → first_failed (content_checks k es cursor content) ≡ o → FairFailure o → Fair (enter_content k es cursor content).answer
       by None e h = rw e tt
       by (Some said) e h = rw e h

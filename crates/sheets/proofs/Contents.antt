@@ -4,12 +4,12 @@ use Rattle.std.proofs.lemmas.List.{get_or_read}
 use Rattle.offers.specs.declared.registers.Entry.{Entry}
 use Rattle.offers.specs.declared.registers.Entry.TheVariants.{Vacant, Open, Withdrawn}
 use Rattle.offers.specs.Layouts.{Layout, fault_of}
-use Rattle.offers.specs.Registers.{entry, place, held_fault, InRange}
+use Rattle.offers.specs.Registers.{entry, place, entry_fault, InRange}
 use Rattle.offers.proofs.RegisterLaws.{inside, found}
-use Rattle.sheets.specs.Fields.{joined}
+use Rattle.sheets.specs.Fields.{joined_entry}
 
 -- what is joined from records in range is in range
-pub joined-in_range : {R : Type 0} (k : Layout R) (e : Entry R) (withdrawn : Bool) (r : R) → held_fault k e ≡ 0 → fault_of k r ≡ 0 → held_fault k (joined e withdrawn r) ≡ 0
+pub joined-in_range : {R : Type 0} (k : Layout R) (e : Entry R) (withdrawn : Bool) (r : R) → entry_fault k e ≡ 0 → fault_of k r ≡ 0 → entry_fault k (joined_entry e withdrawn r) ≡ 0
 joined-in_range k Vacant true r ok fine = fine
 joined-in_range k Vacant false r ok fine = fine
 joined-in_range k (Open mine) true r ok fine = ok
@@ -26,5 +26,5 @@ module _ {R : Type 0} (k : Layout R) (es : List (Entry R)) (n at : ℕ) (here : 
   entry_read = get_or_read es at e placed is Vacant ∙ ap (λ i. get_or es i Vacant) (found k es n at here).1
 
   -- and it is in range where all are
-  pub entry-in_range : InRange k es → held_fault k e ≡ 0
+  pub entry-in_range : InRange k es → entry_fault k e ≡ 0
   entry-in_range ok = rw entry_read (ok (n - 1))

@@ -3,10 +3,10 @@ use Rattle.std.proofs.Common.{◌≡◌, ℕ, zero, suc, List, length, get_or, r
 use Rattle.std.proofs.lemmas.List.{length-replicate}
 use Rattle.offers.specs.declared.registers.Entry.{Entry}
 use Rattle.offers.specs.declared.registers.Entry.TheVariants.{Vacant}
-use Rattle.offers.specs.declared.memory.Kind.{Kind}
-use Rattle.offers.specs.declared.memory.Kind.TheVariants as kind
+use Rattle.offers.specs.declared.kinds.Kind.{Kind}
+use Rattle.offers.specs.declared.kinds.Kind.TheVariants as kind
 use Rattle.offers.specs.Registers.{Onward, InRange}
-use Rattle.offers.specs.Memory.{Entries, Sound, RecordOf, layout_of, entries_of, with_entries, vacant}
+use Rattle.offers.specs.Memory.{Entries, Sound, RecordOf, layout_of, entries_of, with_entries, all_vacant}
 use Rattle.sheets.specs.Laws.{Faithful}
 use Rattle.sheets.specs.Reading.{catch_up}
 use Rattle.sheets.specs.Writing.{sheet_of}
@@ -34,7 +34,7 @@ further_read all later long sound further =
     ∙ ap Ok (same_entries (merged_entries all later) later (λ k. entries-merged all later k ∙ further_becomes (entries_of all k) (entries_of later k) (further k)))
 
 -- the entries that a vacant round has of a kind
-vacant-entries : (k : Kind) → entries_of vacant k ≡ replicate (layout_of k).count Vacant
+vacant-entries : (k : Kind) → entries_of all_vacant k ≡ replicate (layout_of k).count Vacant
 vacant-entries kind.Package = refl
 vacant-entries kind.Band = refl
 vacant-entries kind.Pair = refl
@@ -48,7 +48,7 @@ vacant-onward (suc n) zero e = tt
 vacant-onward (suc n) (suc i) e = vacant-onward n i e
 
 -- so every round has come further than a vacant one
-vacant_further : (all : Entries) → Numbered all → Further vacant all
+vacant_further : (all : Entries) → Numbered all → Further all_vacant all
 vacant_further all long k =
     subst (λ (es : List (Entry (RecordOf k))). FurtherIn es (entries_of all k)) (sym (vacant-entries k))
     (record {
@@ -57,12 +57,12 @@ vacant_further all long k =
     })
 
 -- and a vacant round has an entry for each number
-vacant-numbered : Numbered vacant
+vacant-numbered : Numbered all_vacant
 vacant-numbered k = ap length (vacant-entries k) ∙ length-replicate (layout_of k).count Vacant
 
 -- so it reads back what was written
-reads_back : (all : Entries) → Sound all → catch_up vacant (sheet_of all) ≡ Ok all
-reads_back all sound = further_read vacant all vacant-numbered sound (vacant_further all sound.numbered)
+reads_back : (all : Entries) → Sound all → catch_up all_vacant (sheet_of all) ≡ Ok all
+reads_back all sound = further_read all_vacant all vacant-numbered sound (vacant_further all sound.numbered)
 
 module _ (all other : Entries) (sound : Sound all) (good : Sound other) where
   -- two rounds that accord become the same, whichever catches up with the other
@@ -95,7 +95,7 @@ accepted_read all other mine sound good e =
 pub faithful : (all : Entries) → Sound all → Faithful all
 faithful all sound = record {
   reads_back = reads_back all sound;
-  apart = λ other good e. same_ok other all (sym (reads_back other good) ∙ ap (catch_up vacant) e ∙ reads_back all sound);
+  apart = λ other good e. same_ok other all (sym (reads_back other good) ∙ ap (catch_up all_vacant) e ∙ reads_back all sound);
   own = further_read all all sound.numbered sound (λ k. further_same (entries_of all k));
   agree = λ other mine theirs good e f.
       let here = accepted_read all other mine sound good e in

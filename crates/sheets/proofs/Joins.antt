@@ -4,9 +4,9 @@ use Rattle.std.specs.Str.{bytes_eq}
 use Rattle.std.proofs.lemmas.Slice.Eq.{bytes_eq-Decides}
 use Rattle.offers.specs.declared.registers.Entry.{Entry}
 use Rattle.offers.specs.declared.registers.Entry.TheVariants.{Vacant, Open, Withdrawn}
-use Rattle.offers.specs.Layouts.{Layout, Lawful, bytes_of, fault_of}
-use Rattle.offers.specs.Registers.{Onward, held_fault, InRange}
-use Rattle.sheets.specs.Fields.{agrees, joined}
+use Rattle.offers.specs.Layouts.{Layout, LayoutLaws, bytes_of, fault_of}
+use Rattle.offers.specs.Registers.{Onward, entry_fault, InRange}
+use Rattle.sheets.specs.Fields.{agrees, joined_entry}
 use Rattle.sheets.proofs.Again.{own-bytes}
 use Rattle.sheets.proofs.Contents.{joined-in_range}
 use Rattle.sheets.proofs.Further.{FurtherIn, further_same, onward-joined}
@@ -14,8 +14,8 @@ use Rattle.sheets.proofs.Further.{FurtherIn, further_same, onward-joined}
 -- what becomes of an entry that is joined with another round's
 abbrev pub merged : {R : Type 0} → Entry R → Entry R → Entry R
 merged mine Vacant = mine
-merged mine (Open r) = joined mine false r
-merged mine (Withdrawn r) = joined mine true r
+merged mine (Open r) = joined_entry mine false r
+merged mine (Withdrawn r) = joined_entry mine true r
 
 -- the two entries do not hold different records
 abbrev pub accords : {R : Type 0} → Layout R → Entry R → Entry R → Bool
@@ -102,7 +102,7 @@ merged_further (m ∷ ms) [] = further_same (m ∷ ms)
 merged_further (m ∷ ms) (e ∷ es) = further_cons m (merged m e) ms (merged_all ms es) (merged-onward m e) (merged_further ms es)
 
 -- records in range stay in range
-merged-in_range : {R : Type 0} (k : Layout R) (m e : Entry R) → held_fault k m ≡ 0 → held_fault k e ≡ 0 → held_fault k (merged m e) ≡ 0
+merged-in_range : {R : Type 0} (k : Layout R) (m e : Entry R) → entry_fault k m ≡ 0 → entry_fault k e ≡ 0 → entry_fault k (merged m e) ≡ 0
 merged-in_range k m Vacant mine theirs = mine
 merged-in_range k m (Open r) mine theirs = joined-in_range k m false r mine theirs
 merged-in_range k m (Withdrawn r) mine theirs = joined-in_range k m true r mine theirs
@@ -114,13 +114,13 @@ merged-ranged k (m ∷ ms) [] mine theirs i = mine i
 merged-ranged k (m ∷ ms) (e ∷ es) mine theirs zero = merged-in_range k m e (mine 0) (theirs 0)
 merged-ranged k (m ∷ ms) (e ∷ es) mine theirs (suc i) = merged-ranged k ms es (λ j. mine (suc j)) (λ j. theirs (suc j)) i
 
-module _ {R : Type 0} (k : Layout R) (law : Lawful k) where
+module _ {R : Type 0} (k : Layout R) (law : LayoutLaws k) where
   -- records in range with the same bytes are the same
   same_record : (r s : R) → fault_of k r ≡ 0 → fault_of k s ≡ 0 → bytes_eq (bytes_of k r) (bytes_of k s) ≡ true → r ≡ s
   same_record r s fine good same = law.apart r s fine good ((bytes_eq-Decides (bytes_of k r) (bytes_of k s)).0 same)
 
   -- so two entries that accord become the same, whichever is joined with the other
-  merged_either : (m e : Entry R) → held_fault k m ≡ 0 → held_fault k e ≡ 0 → accords k m e ≡ true → merged m e ≡ merged e m
+  merged_either : (m e : Entry R) → entry_fault k m ≡ 0 → entry_fault k e ≡ 0 → accords k m e ≡ true → merged m e ≡ merged e m
   merged_either Vacant Vacant mine theirs same = refl
   merged_either Vacant (Open s) mine theirs same = refl
   merged_either Vacant (Withdrawn s) mine theirs same = refl

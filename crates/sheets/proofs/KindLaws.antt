@@ -1,21 +1,21 @@
 -- Kinds by their tags: the five tags differ, and the entries of one kind stand apart from those of the others.
 use Rattle.std.proofs.Common.{◌≡◌, List, Some, Option, sym, refl, ap, ◌∙◌}
 use Rattle.offers.specs.declared.registers.Entry.{Entry}
-use Rattle.offers.specs.declared.memory.Kind.{Kind}
-use Rattle.offers.specs.declared.memory.Kind.TheVariants as kind
-use Rattle.offers.specs.Layouts.{Lawful}
+use Rattle.offers.specs.declared.kinds.Kind.{Kind}
+use Rattle.offers.specs.declared.kinds.Kind.TheVariants as kind
+use Rattle.offers.specs.Layouts.{LayoutLaws}
 use Rattle.offers.specs.Memory.{Entries, RecordOf, layout_of, entries_of, with_entries}
-use Rattle.offers.specs.LawfulKinds.{package_lawful, band_lawful, pair_lawful, exclusion_lawful, limit_lawful}
+use Rattle.offers.specs.LawfulKinds.{package_laws, band_laws, pair_laws, exclusion_laws, limit_laws}
 use Rattle.offers.proofs.MemoryLaws.{lifted-each}
 use Rattle.offers.specs.Marks.{kind_of_tag}
 
 -- every kind keeps the laws of a layout
-pub lawful-kind : (k : Kind) → Lawful (layout_of k)
-lawful-kind kind.Package = package_lawful
-lawful-kind kind.Band = band_lawful
-lawful-kind kind.Pair = pair_lawful
-lawful-kind kind.Exclusion = exclusion_lawful
-lawful-kind kind.Limit = limit_lawful
+pub lawful-kind : (k : Kind) → LayoutLaws (layout_of k)
+lawful-kind kind.Package = package_laws
+lawful-kind kind.Band = band_laws
+lawful-kind kind.Pair = pair_laws
+lawful-kind kind.Exclusion = exclusion_laws
+lawful-kind kind.Limit = limit_laws
 
 -- a kind's tag marks that kind
 pub marks : (k : Kind) → kind_of_tag (layout_of k).tag ≡ Some k

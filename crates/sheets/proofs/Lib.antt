@@ -1,7 +1,7 @@
 pub mod Splits
 pub mod Turns
 pub mod Contents
-pub mod Pieces
+pub mod Enterings
 pub mod KindLaws
 pub mod Checks
 pub mod Headers

@@ -8,9 +8,9 @@ use Rattle.std.proofs.lemmas.Bool.{le-leb}
 use Rattle.offers.specs.declared.refusals.Refusal.{Refusal}
 use Rattle.offers.specs.declared.registers.Entry.{Entry}
 use Rattle.offers.specs.declared.registers.Entry.TheVariants.{Vacant, Open, Withdrawn}
-use Rattle.offers.specs.declared.memory.Kind.TheVariants as kind
+use Rattle.offers.specs.declared.kinds.Kind.TheVariants as kind
 use Rattle.offers.specs.Fields.{high_first}
-use Rattle.offers.specs.Layouts.{Layout, Lawful, bytes_of}
+use Rattle.offers.specs.Layouts.{Layout, LayoutLaws, bytes_of}
 use Rattle.offers.specs.Registers.{is_vacant}
 use Rattle.offers.specs.Memory.{Entries}
 use Rattle.sheets.specs.Fields.{content_size}
@@ -64,7 +64,7 @@ put_part at end bytes before e h = record {
   back = drop-put_mid at (end - at) before bytes end (omega arith) (omega arith) (omega arith);
 }
 
-module _ {R : Type 0} (k : Layout R) (law : Lawful k) where
+module _ {R : Type 0} (k : Layout R) (law : LayoutLaws k) where
   -- a field's length is that of its header and its content
   pub length-field : (n status : ℕ) (r : R) → length (field_bytes k n status r) ≡ content_size k + 3
   length-field n status r = omega (arith, law.sized r)

@@ -2,12 +2,12 @@
 use Rattle.std.proofs.Common.{◌≡◌, ℕ, ◌<◌, ◌≤◌, List, [], ◌∷◌, ◌++◌, length, Ok, Result, sym, refl, ap, ◌∙◌, inl, inr, arith}
 use Rattle.std.proofs.lemmas.List.{append-nil}
 use Rattle.offers.specs.declared.refusals.Refusal.{Refusal}
-use Rattle.offers.specs.declared.memory.Kind.{Kind}
-use Rattle.offers.specs.declared.memory.Kind.TheVariants as kind
+use Rattle.offers.specs.declared.kinds.Kind.{Kind}
+use Rattle.offers.specs.declared.kinds.Kind.TheVariants as kind
 use Rattle.offers.specs.Memory.{Entries, Sound, layout_of, entries_of, with_entries}
 use Rattle.offers.proofs.MemoryLaws.{lifted-each}
-use Rattle.sheets.specs.declared.fields.Mark.{Mark}
-use Rattle.sheets.specs.Reading.{start, catch_up}
+use Rattle.sheets.specs.declared.fields.Cursor.{Cursor}
+use Rattle.sheets.specs.Reading.{start_cursor, catch_up}
 use Rattle.sheets.specs.Writing.{kind_bytes, sheet_of}
 use Rattle.sheets.proofs.Joins.{merged_all, Accord, merged-long}
 use Rattle.sheets.proofs.RegistersBack.{read_on, Met, kind_met}
@@ -52,25 +52,25 @@ pub record Read (caught : Result Entries Refusal) (accord : Type 0) (left : Entr
   pub only : (after : Entries) → caught ≡ Ok after → accord
 
 -- so it is of fields and the rest of a sheet, if it is so of the rest
-met_read : {A B : Type 0} (caught : Result Entries Refusal) (tag : ℕ) (left : Entries) (rest : List ℕ) (last : Entries) → Met caught A tag left rest → ((next : Mark) → next.tag ≤ tag → Read (read_on left next rest) B last) → Read caught (A × B) last
-met_read caught tag left rest last (inl j) after =
+met_read : {A B : Type 0} (caught : Result Entries Refusal) (tag : ℕ) (left : Entries) (rest : List ℕ) (cursor : Entries) → Met caught A tag left rest → ((next : Cursor) → next.last_tag ≤ tag → Read (read_on left next rest) B cursor) → Read caught (A × B) cursor
+met_read caught tag left rest cursor (inl j) after =
     let more = after j.next j.lower in
     record {
       joins = λ a. j.goes_on ∙ more.joins a.1;
       only = λ mine e. (j.accords, more.only mine (sym j.goes_on ∙ e));
     }
-met_read caught tag left rest last (inr c) after = record {
+met_read caught tag left rest cursor (inr c) after = record {
   joins = λ a. absurd (c.apart a.0);
   only = λ mine e. absurd (c.never mine e);
 }
 
 -- the fields of some kinds, kind after kind
-kinds_read : (ks : List Kind) (tag : ℕ) → Rising tag ks → (all other : Entries) → Numbered all → Sound other → (last : Mark) → last.tag ≤ tag
-    → Read (read_on all last (kinds_bytes ks other)) (KindsAccord ks all other) (kinds_merged ks all other)
-kinds_read [] tag rising all other long sound last lower = record { joins = λ _. refl; only = λ _ _. tt }
-kinds_read (k ∷ ks) tag rising all other long sound last lower =
+kinds_read : (ks : List Kind) (tag : ℕ) → Rising tag ks → (all other : Entries) → Numbered all → Sound other → (cursor : Cursor) → cursor.last_tag ≤ tag
+    → Read (read_on all cursor (kinds_bytes ks other)) (KindsAccord ks all other) (kinds_merged ks all other)
+kinds_read [] tag rising all other long sound cursor lower = record { joins = λ _. refl; only = λ _ _. tt }
+kinds_read (k ∷ ks) tag rising all other long sound cursor lower =
     met_read _ (layout_of k).tag (kind_merged k all other) (kinds_bytes ks other) (kinds_merged ks (kind_merged k all other) other)
-    (kind_met k all (entries_of other k) (long k) (sound.numbered k) (sound.in_range k) last (omega (arith, rising.0)) (kinds_bytes ks other))
+    (kind_met k all (entries_of other k) (long k) (sound.numbered k) (sound.in_range k) cursor (omega (arith, rising.0)) (kinds_bytes ks other))
     (kinds_read ks (layout_of k).tag rising.1 (kind_merged k all other) other (merged-numbered k all other long) sound)
 
 -- the kinds by rising tag
@@ -114,7 +114,7 @@ pub sheet_read : (all other : Entries) → Numbered all → Sound other → Read
 sheet_read all other long sound =
     let whole = ap (catch_up all) (sheet_is other) in
     let rising : Rising 0 five = (omega arith, (omega arith, (omega arith, (omega arith, (omega arith, tt))))) in
-    let read = kinds_read five 0 rising all other long sound start (omega arith) in
+    let read = kinds_read five 0 rising all other long sound start_cursor (omega arith) in
     record {
       joins = λ a. whole ∙ read.joins (from_each all other a);
       only = λ mine e. to_each all other (read.only mine (sym whole ∙ e));

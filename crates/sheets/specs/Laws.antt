@@ -3,11 +3,11 @@ use Rattle.std.specs.Prelude.{◌≡◌, ℕ, zero, suc, ◌+◌, Bool, true, fa
 use Rattle.offers.specs.declared.refusals.Refusal.{Refusal}
 use Rattle.offers.specs.declared.registers.Entry.{Entry}
 use Rattle.offers.specs.declared.registers.Entry.TheVariants.{Vacant, Open, Withdrawn}
-use Rattle.offers.specs.declared.memory.Kind.{Kind}
+use Rattle.offers.specs.declared.kinds.Kind.{Kind}
 use Rattle.offers.specs.Refusals.{Carries}
 use Rattle.offers.specs.Registers.{Onward}
-use Rattle.offers.specs.Memory.{Entries, Sound, layout_of, entries_of, vacant}
-use Rattle.sheets.specs.Fields.{Piece, split, number_in, withdrawn_in}
+use Rattle.offers.specs.Memory.{Entries, Sound, layout_of, entries_of, all_vacant}
+use Rattle.sheets.specs.Fields.{SheetField, split_field, number_in, withdrawn_in}
 use Rattle.sheets.specs.Reading.{catch_up}
 use Rattle.sheets.specs.Writing.{sheet_of}
 
@@ -22,17 +22,17 @@ abbrev pub withdrawn_at : Entries → Kind → ℕ → Bool
 withdrawn_at all k i = is_withdrawn (slice_index_or (entries_of all k) i Vacant)
 
 -- the fields of a sheet, as far as their headers are in order
-abbrev pub after_split : Result Piece Refusal → (List ℕ → List Piece) → List Piece
+abbrev pub after_split : Result SheetField Refusal → (List ℕ → List SheetField) → List SheetField
 after_split (Ok p) rest = p ∷ rest p.rest
 after_split (Err e) rest = []
 
-abbrev pub fields_from : ℕ → List ℕ → List Piece
+abbrev pub fields_from : ℕ → List ℕ → List SheetField
 fields_from zero bs = []
 fields_from (suc turns) [] = []
-fields_from (suc turns) (b ∷ bs) = after_split (split (b ∷ bs) 0) (fields_from turns)
+fields_from (suc turns) (b ∷ bs) = after_split (split_field (b ∷ bs) 0) (fields_from turns)
 
 -- one of the fields has this tag and number, with the status withdrawn
-abbrev pub among_withdrawn : List Piece → Kind → ℕ → Bool
+abbrev pub among_withdrawn : List SheetField → Kind → ℕ → Bool
 among_withdrawn [] k n = false
 among_withdrawn (p ∷ ps) k n =
     ((layout_of p.kind).tag == (layout_of k).tag && (number_in p.content == n && withdrawn_in p.content))
@@ -57,7 +57,7 @@ pub record CaughtUp (before : Entries) (bs : List ℕ) (answer : Result Unit Ref
 -- What the sheet of a round's entries is to this round and to every other.
 pub record Faithful (all : Entries) : Type 0 where
   -- a vacant round that catches up with it has the same entries
-  pub reads_back : catch_up vacant (sheet_of all) ≡ Ok all
+  pub reads_back : catch_up all_vacant (sheet_of all) ≡ Ok all
   -- so other entries write another sheet
   pub apart : (other : Entries) → Sound other → sheet_of other ≡ sheet_of all → other ≡ all
   -- the round's own sheet changes nothing

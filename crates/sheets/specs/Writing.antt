@@ -1,15 +1,16 @@
 -- The sheet of a round's entries. Assumes nothing.
-use Rattle.std.specs.Prelude.{ℕ, ◌+◌, cond, List, [], ◌∷◌, ◌++◌, length, drop, Ok, Err, Result, nat_le}
+use Rattle.offers.specs.Refusals.{code_only}
+use Rattle.std.specs.Prelude.{ℕ, ◌+◌, List, [], ◌∷◌, ◌++◌, length, drop, Ok, Err, Result, nat_le, if◌then◌else◌}
 use Rattle.offers.specs.declared.refusals.Code.TheVariants.{NoRoom}
 use Rattle.offers.specs.declared.refusals.Refusal.{Refusal}
 use Rattle.offers.specs.declared.registers.Entry.{Entry}
 use Rattle.offers.specs.declared.registers.Entry.TheVariants.{Vacant, Open, Withdrawn}
-use Rattle.offers.specs.declared.memory.Kind.{Kind}
-use Rattle.offers.specs.declared.memory.Kind.TheVariants as kind
+use Rattle.offers.specs.declared.kinds.Kind.{Kind}
+use Rattle.offers.specs.declared.kinds.Kind.TheVariants as kind
 use Rattle.offers.specs.Fields.{high_first}
 use Rattle.offers.specs.Layouts.{Layout, bytes_of}
 use Rattle.offers.specs.Memory.{Entries, layout_of, entries_of}
-use Rattle.sheets.specs.Fields.{content_size, refused_field}
+use Rattle.sheets.specs.Fields.{content_size}
 
 -- a field: tag, two length bytes, number, status, record
 abbrev pub field_bytes : {R : Type 0} → Layout R → ℕ → ℕ → R → List ℕ
@@ -36,13 +37,13 @@ sheet_of all =
     ++ (kind_bytes all kind.Band ++ (kind_bytes all kind.Pair ++ (kind_bytes all kind.Exclusion ++ kind_bytes all kind.Limit)))
 
 -- What writing a sheet answers, its length or a refusal, and the buffer that it leaves.
-pub record Written : Type 0 where
+pub record WrittenSheet : Type 0 where
   pub answer : Result ℕ Refusal
   pub buffer : List ℕ
 
 -- The sheet fills the buffer's first bytes and leaves the rest; a buffer that is too short stays as it is.
-abbrev pub write_sheet : Entries → List ℕ → Written
+abbrev pub write_sheet : Entries → List ℕ → WrittenSheet
 write_sheet all buffer =
-    cond (nat_le (length (sheet_of all)) (length buffer))
-    (record { answer = Ok (length (sheet_of all)); buffer = sheet_of all ++ drop (length (sheet_of all)) buffer })
-    (record { answer = Err (refused_field NoRoom 0 0 0 0); buffer = buffer })
+    if nat_le (length (sheet_of all)) (length buffer)
+    then record { answer = Ok (length (sheet_of all)); buffer = sheet_of all ++ drop (length (sheet_of all)) buffer }
+    else record { answer = Err (code_only NoRoom); buffer = buffer }

@@ -1,42 +1,40 @@
-// One field of a sheet: its header taken off, its content taken into the entries of its kind.
+//! One field of a sheet: its header taken off, its content taken into the entries of its kind.
 ghost use Rattle.std.specs.Prelude.{◌≡◌, length, Ok, Err, IfErr};
 ghost use Rattle.offers.specs.Layouts.{fault_of};
 ghost use Rattle.offers.specs.Marks.{decoded};
 ghost use Rattle.offers.specs.Memory.{layout_of};
 ghost use Rattle.offers.specs.Refusals.{Carries};
-ghost use Rattle.offers.specs.Registers.{held_fault};
-ghost use Rattle.sheets.specs.Fields.{refused_field, content_size, split as split_off, rises as comes_after, agrees as in_accord, status_of, status_byte, status_withdrawn, entry_of, joined as join, take_in};
+ghost use Rattle.offers.specs.Registers.{entry_fault};
+ghost use Rattle.sheets.specs.Views.{ReadAs};
+ghost use Rattle.sheets.specs.Fields.{content_size, refused_tagged, refused_number, split_field, rises, agrees, status_of, status_byte, status_withdrawn, entry_of, joined_entry, enter_content};
 
-use offers::ledgers::Ledger;
-use offers::marks::Unknown;
-use offers::memory::Kind;
-use offers::records::Record;
-use offers::refusals::{Code, Refusal};
-use offers::registers::{Entry, place_of};
+use offers::{Code, Entry, Kind, Ledger, Record, Refusal, Unknown, place_of};
 
-// How far a reader has come: the byte where the next field starts, and the tag and number of the field before it. They are 0 before
-// the first, as in the definition of rising order, which no field comes before.
+/// How far a reader has come on a sheet.
 #[derive(Clone, Copy)]
-pub struct Mark {
-    pub byte: usize,
-    pub tag: u8,
-    pub number: u8,
+pub struct Cursor {
+    /// where the next field starts
+    pub next_byte: usize,
+    /// of the field before it, 0 where there is none
+    pub last_tag: u8,
+    /// of the field before it, 0 where there is none
+    pub last_number: u8,
 }
 
-// A field with its header taken off.
+/// A field of a sheet with its header taken off.
 #[derive(Clone, Copy)]
-pub struct Field<'a> {
+pub struct SheetField<'a> {
     pub kind: Kind,
-    // offer number, status and record
+    /// offer number, status and record
     pub content: &'a [u8],
-    // the sheet after the field
+    /// the sheet after the field
     pub rest: &'a [u8],
 }
 
-// The bytes of a header: tag and two of length.
+/// The bytes of a header: tag and two of length.
 pub const HEADER: usize = 3;
 
-// What a sheet says of an entry.
+/// What a sheet says of an entry.
 #[derive(Clone, Copy, PartialEq, Eq, Debug)]
 pub enum Status {
     Open = 1,
@@ -58,7 +56,7 @@ impl TryFrom<u8> for Status {
 }
 
 impl Status {
-    // Its byte on a sheet. A method, since its name says which conversion it is.
+    /// Its byte on a sheet.
     pub(crate) fn byte(self) -> u8
         ensures { result ≡ status_byte self }
     {
@@ -66,130 +64,148 @@ impl Status {
     }
 }
 
-// A refusal of a field that starts at `byte`.
-pub(crate) fn refusal(code: Code, tag: u8, number: u8, field: u8, byte: usize) -> Refusal
-    ensures { result ≡ refused_field code tag number field byte }
-{
-    Refusal {
-        tag,
-        number,
-        field,
-        byte,
-        ..Refusal::of(code)
-    }
-}
-
-// The bytes of a content: offer number, status and record.
+/// The bytes of a content: offer number, status and record.
 pub(crate) fn content_bytes<R: Record>() -> usize
     ensures { result ≡ content_size R.Record.layout }
 {
     R::LENGTH as usize + 2
 }
 
-// The bytes of a content of a kind.
+/// The bytes of a content of a kind.
 pub(crate) fn content_length(kind: Kind) -> usize
     ensures { result ≡ content_size (layout_of kind) }
 {
     kind.record_length() as usize + 2
 }
 
-// Takes the header off the field that starts the sheet's rest.
-pub(crate) fn split_field(sheet: &[u8], byte: usize) -> Result<Field<'_>, Refusal>
-    ensures answer { elim result [ Ok f ↦ split_off sheet.now byte ≡ Ok (record { kind = f.kind; content = f.content.now; rest = f.rest.now }) | Err e ↦ split_off sheet.now byte ≡ Err e ] }
+/// Takes the header off the field that starts the sheet's rest, at `byte` of the whole.
+pub(crate) fn split_field(sheet: &[u8], byte: usize) -> Result<SheetField<'_>, Refusal>
+    ensures answer { ReadAs result (split_field sheet.now byte) }
     ensures carries { IfErr result Carries }
 {
     let [tag, high, low, body @ ..] = sheet else {
-        return Err(refusal(Code::CutShort, 0, 0, 0, byte));
+        return Err(Refusal {
+            byte,
+            ..Refusal::code_only(Code::CutShort)
+        });
     };
     let length = u16::from_be_bytes([*high, *low]) as usize;
     let Ok(kind) = Kind::try_from(*tag) else {
-        return Err(refusal(Code::Strange, *tag, 0, 0, byte));
+        return Err(refused_tagged(Code::Strange, *tag, byte));
     };
     if length != content_length(kind) {
-        return Err(refusal(Code::Strange, *tag, 0, 0, byte));
+        return Err(refused_tagged(Code::Strange, *tag, byte));
     }
     if body.len() < length {
-        return Err(refusal(Code::CutShort, *tag, 0, 0, byte));
+        return Err(refused_tagged(Code::CutShort, *tag, byte));
     }
     let (content, rest) = body.split_at(length);
-    Ok(Field {
+    Ok(SheetField {
         kind,
         content,
         rest,
     })
 }
 
-// Whether a field of this tag and number comes after the one that was read before it.
-fn rises(last: Mark, tag: u8, number: u8) -> bool
-    ensures { result ≡ comes_after last tag number }
+// A refusal of a field whose tag was read.
+fn refused_tagged(code: Code, tag: u8, byte: usize) -> Refusal
+    ensures { result ≡ refused_tagged code tag byte }
 {
-    (last.tag, last.number) < (tag, number)
-}
-
-// Whether an entry can be joined with a record that a sheet sends for its number: not where it holds another one.
-fn agrees<R: Record>(held: &Entry<R>, record: &R) -> bool
-    requires held_in_range { held_fault R.Record.layout held.now ≡ 0 }
-    requires in_range { fault_of R.Record.layout «record».now ≡ 0 }
-    ensures { result ≡ in_accord R.Record.layout held.now «record».now }
-{
-    match held {
-        Entry::Vacant => true,
-        Entry::Open(mine) => mine == record,
-        Entry::Withdrawn(mine) => mine == record,
+    Refusal {
+        tag,
+        byte,
+        ..Refusal::code_only(code)
     }
 }
 
-// An entry that holds a record.
-fn entry_of<R: Record>(status: Status, record: R) -> Entry<R>
-    ensures { result ≡ entry_of (status_withdrawn status) «record» }
+// Whether a field of this tag and number comes after the one that was read before it.
+fn rises(cursor: Cursor, tag: u8, number: u8) -> bool
+    ensures { result ≡ rises cursor tag number }
+{
+    (cursor.last_tag, cursor.last_number) < (tag, number)
+}
+
+// Whether an entry can be joined with the record that a sheet sends for its number: not where it has another one.
+fn agrees<R: Record>(entry: &Entry<R>, sent: &R) -> bool
+    requires entry_in_range { entry_fault R.Record.layout entry.now ≡ 0 }
+    requires in_range { fault_of R.Record.layout sent.now ≡ 0 }
+    ensures { result ≡ agrees R.Record.layout entry.now sent.now }
+{
+    match entry {
+        Entry::Vacant => true,
+        Entry::Open(mine) => mine == sent,
+        Entry::Withdrawn(mine) => mine == sent,
+    }
+}
+
+// The entry of a record with a status.
+fn entry_of<R: Record>(status: Status, sent: R) -> Entry<R>
+    ensures { result ≡ entry_of (status_withdrawn status) sent }
 {
     match status {
-        Status::Open => Entry::Open(record),
-        Status::Withdrawn => Entry::Withdrawn(record),
+        Status::Open => Entry::Open(sent),
+        Status::Withdrawn => Entry::Withdrawn(sent),
     }
 }
 
 // What becomes of an entry: a vacant one takes what is sent, and any other is withdrawn if either says so.
-fn joined<R: Record>(held: Entry<R>, status: Status, record: R) -> Entry<R>
-    ensures { result ≡ join held (status_withdrawn status) «record» }
+fn joined_entry<R: Record>(entry: Entry<R>, status: Status, sent: R) -> Entry<R>
+    ensures { result ≡ joined_entry entry (status_withdrawn status) sent }
 {
-    match held {
-        Entry::Vacant => entry_of(status, record),
+    match entry {
+        Entry::Vacant => entry_of(status, sent),
         Entry::Open(mine) => entry_of(status, mine),
         Entry::Withdrawn(mine) => Entry::Withdrawn(mine),
     }
 }
 
-// Takes a field's content into the ledger of its kind, and gives its offer number.
-pub(crate) fn take_content<R: Record, const N: usize>(
+// A refusal of a field whose offer number was read.
+fn refused_number<R: Record>(code: Code, cursor: Cursor, number: u8) -> Refusal
+    ensures { result ≡ refused_number R.Record.layout code cursor number }
+{
+    Refusal {
+        tag: R::TAG,
+        number,
+        byte: cursor.next_byte,
+        ..Refusal::code_only(code)
+    }
+}
+
+/// Enters a field's content in the ledger of its kind, and gives its offer number.
+pub(crate) fn enter_content<R: Record, const N: usize>(
     ledger: &mut Ledger<R, N>,
-    last: Mark,
+    cursor: Cursor,
     content: &[u8],
 ) -> Result<u8, Refusal>
     requires { length content.now ≡ content_size R.Record.layout }
-    ensures answer { result ≡ (take_in R.Record.layout ledger.old.entries last content.now).answer }
-    ensures after { ledger.new.entries ≡ (take_in R.Record.layout ledger.old.entries last content.now).left }
+    ensures answer { result ≡ (enter_content R.Record.layout ledger.old.entries cursor content.now).answer }
+    ensures after { ledger.new.entries ≡ (enter_content R.Record.layout ledger.old.entries cursor content.now).after }
     ensures carries { IfErr result Carries }
 {
-    let tag = R::TAG;
     let number = content[0];
     let Some(at) = place_of(&ledger.entries, number) else {
-        return Err(refusal(Code::NumberOutside, tag, number, 0, last.byte));
+        return Err(refused_number::<R>(Code::NumberOutside, cursor, number));
     };
-    if !rises(last, tag, number) {
-        return Err(refusal(Code::NotRising, tag, number, 0, last.byte));
+    if !rises(cursor, R::TAG, number) {
+        return Err(refused_number::<R>(Code::NotRising, cursor, number));
     }
     let Ok(status) = Status::try_from(content[1]) else {
-        return Err(refusal(Code::FieldOutside, tag, number, 1, last.byte));
+        return Err(Refusal {
+            field: 1,
+            ..refused_number::<R>(Code::FieldOutside, cursor, number)
+        });
     };
-    let record = R::read(&content[2..]);
-    if let Some(field) = record.fault() {
-        return Err(refusal(Code::FieldOutside, tag, number, field, last.byte));
+    let sent = R::read(&content[2..]);
+    if let Some(field) = sent.fault() {
+        return Err(Refusal {
+            field,
+            ..refused_number::<R>(Code::FieldOutside, cursor, number)
+        });
     }
-    let held = ledger.entries[at];
-    if !agrees(&held, &record) {
-        return Err(refusal(Code::Clash, tag, number, 0, last.byte));
+    let entry = ledger.entries[at];
+    if !agrees(&entry, &sent) {
+        return Err(refused_number::<R>(Code::Clash, cursor, number));
     }
-    ledger.entries[at] = joined(held, status, record);
+    ledger.entries[at] = joined_entry(entry, status, sent);
     Ok(number)
 }

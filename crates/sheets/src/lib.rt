@@ -1,6 +1,12 @@
-// Sheets: how one round's offers reach another, written and read field by field.
+//! Sheets: how one round's offers reach another, written and read field by field.
 #![tactic(auto)]
 
 mod fields;
-pub mod reading;
-pub mod writing;
+mod reading;
+mod writing;
+
+/// Brings offers up to date from a whole sheet, or refuses it whole.
+pub use reading::catch_up;
+
+/// Writes the sheet of offers, which says every entry that is not vacant; and the bytes that it has.
+pub use writing::{sheet_length, write_sheet};

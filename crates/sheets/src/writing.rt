@@ -1,27 +1,24 @@
-// Writing: every entry that is not vacant goes straight into the caller's buffer, by rising tag, then rising number.
+//! Writing: every entry that is not vacant goes straight into the caller's buffer, by rising tag, then rising number.
 ghost use Rattle.std.specs.Prelude.{◌≡◌, ◌+◌, ◌*◌, ◌^◌, ◌<◌, ◌≤◌, ◌++◌, length, take, drop, IfErr};
-ghost use Rattle.offers.specs.Memory.{Sound, held};
+ghost use Rattle.offers.specs.Memory.{Sound, entries_in};
 ghost use Rattle.offers.specs.Refusals.{Carries};
 ghost use Rattle.sheets.specs.Fields.{content_size, status_byte};
 ghost use Rattle.sheets.specs.Laws.{Faithful};
 ghost use Rattle.sheets.specs.Writing.{field_bytes, register_bytes, sheet_of, write_sheet};
 
-use crate::fields::{HEADER, Status, content_bytes, refusal};
-use offers::memory::Offers;
-use offers::records::Record;
-use offers::refusals::{Code, Refusal};
-use offers::registers::Entry;
+use crate::fields::{HEADER, Status, content_bytes};
+use offers::{Code, Entry, Offers, Record, Refusal};
 
-// Writes the sheet of the offers into the buffer's first bytes, and gives its length.
+/// Writes the sheet of the offers into the buffer's first bytes, and gives its length.
 pub fn write_sheet(offers: &Offers, buffer: &mut [u8]) -> Result<usize, Refusal>
-    ensures answer { result ≡ (write_sheet (held offers.now) buffer.old).answer }
-    ensures after { buffer.new ≡ (write_sheet (held offers.now) buffer.old).buffer }
-    ensures faithful { Faithful (held offers.now) }
+    ensures answer { result ≡ (write_sheet (entries_in offers.now) buffer.old).answer }
+    ensures after { buffer.new ≡ (write_sheet (entries_in offers.now) buffer.old).buffer }
+    ensures faithful { Faithful (entries_in offers.now) }
     ensures carries { IfErr result Carries }
 {
     let length = sheet_length(offers);
     if buffer.len() < length {
-        return Err(refusal(Code::NoRoom, 0, 0, 0, 0));
+        return Err(Refusal::code_only(Code::NoRoom));
     }
     let at = put_register(&offers.packages.entries, buffer, 0);
     let at = put_register(&offers.bands.entries, buffer, at);
@@ -31,10 +28,10 @@ pub fn write_sheet(offers: &Offers, buffer: &mut [u8]) -> Result<usize, Refusal>
     Ok(length)
 }
 
-// The bytes of the offers' sheet, which is written from sound entries.
+/// The bytes of the offers' sheet, which is written from sound entries.
 pub fn sheet_length(offers: &Offers) -> usize
-    ensures value { result ≡ length (sheet_of (held offers.now)) }
-    ensures sound { Sound (held offers.now) }
+    ensures value { result ≡ length (sheet_of (entries_in offers.now)) }
+    ensures sound { Sound (entries_in offers.now) }
 {
     register_length(&offers.packages.entries)
         + register_length(&offers.bands.entries)
@@ -43,8 +40,7 @@ pub fn sheet_length(offers: &Offers) -> usize
         + register_length(&offers.limits.entries)
 }
 
-// The bytes of a register's fields. That a content's length fits its two bytes is asked here and twice below: a law of `Record` for it
-// would ask one more thing of whoever adds a kind.
+// The bytes of a register's fields.
 fn register_length<R: Record>(entries: &[Entry<R>]) -> usize
     requires few { length entries.now ≤ 64 }
     requires short { content_size R.Record.layout < 2 ^ 16 }
@@ -55,8 +51,7 @@ fn register_length<R: Record>(entries: &[Entry<R>]) -> usize
     held.count() * (HEADER + content_bytes::<R>())
 }
 
-// Writes a register's fields from `at` on, and gives where they end. Buffer and place stay two parameters: a struct that holds the
-// borrow would say in each contract that it is still the same one.
+// Writes a register's fields from `at` on, and gives where they end.
 fn put_register<R: Record>(entries: &[Entry<R>], buffer: &mut [u8], at: usize) -> usize
     requires few { length entries.now ≤ 64 }
     requires short { content_size R.Record.layout < 2 ^ 16 }
@@ -70,8 +65,8 @@ fn put_register<R: Record>(entries: &[Entry<R>], buffer: &mut [u8], at: usize) -
         let number = i as u8 + 1;
         next = match entry {
             Entry::Vacant => next,
-            Entry::Open(record) => put_field(buffer, next, number, Status::Open, record),
-            Entry::Withdrawn(record) => put_field(buffer, next, number, Status::Withdrawn, record),
+            Entry::Open(filed) => put_field(buffer, next, number, Status::Open, filed),
+            Entry::Withdrawn(filed) => put_field(buffer, next, number, Status::Withdrawn, filed),
         };
     }
     next
@@ -83,12 +78,12 @@ fn put_field<R: Record>(
     at: usize,
     number: u8,
     status: Status,
-    record: &R,
+    filed: &R,
 ) -> usize
     requires short { content_size R.Record.layout < 2 ^ 16 }
-    requires room { at + length (field_bytes R.Record.layout number (status_byte status) «record».now) ≤ length buffer.old }
-    ensures end { result ≡ at + length (field_bytes R.Record.layout number (status_byte status) «record».now) }
-    ensures front { take result buffer.new ≡ take at buffer.old ++ field_bytes R.Record.layout number (status_byte status) «record».now }
+    requires room { at + length (field_bytes R.Record.layout number (status_byte status) filed.now) ≤ length buffer.old }
+    ensures end { result ≡ at + length (field_bytes R.Record.layout number (status_byte status) filed.now) }
+    ensures front { take result buffer.new ≡ take at buffer.old ++ field_bytes R.Record.layout number (status_byte status) filed.now }
     ensures back { drop result buffer.new ≡ drop result buffer.old }
 {
     let content = content_bytes::<R>();
@@ -97,6 +92,6 @@ fn put_field<R: Record>(
     let [high, low] = (content as u16).to_be_bytes();
     let front = [R::TAG, high, low, number, status.byte()];
     buffer[at..start + 2].copy_from_slice(&front);
-    record.write(&mut buffer[start + 2..end]);
+    filed.write(&mut buffer[start + 2..end]);
     end
 }

@@ -1,7 +1,7 @@
-// A line, read from its text.
+//! A line, read from its text.
 ghost use Rattle.std.specs.Option.{option_map};
 ghost use Rattle.journals.specs.Lines.{said, said_at, said_by, said_in};
-ghost use Rattle.journals.specs.Readers.{left, Reads};
+ghost use Rattle.journals.specs.Readers.{unread, Reads};
 
 use crate::bytes::bytes;
 use crate::chains::chain;
@@ -19,7 +19,7 @@ const ROW: u32 = 64;
 // What the words after a line's first say.
 #[tactic(auto, unfolding(crate::specs::Lines::said_at))]
 fn rest(heap: Global, verb: Verb, words: &mut Words) -> Result<Line, ReadError>
-    ensures { Reads (λ line. (said line, left words.new)) result (said_at verb (left words.old)) }
+    ensures { Reads (λ line. (said line, unread words.new)) result (said_at verb (unread words.old)) }
 {
     Ok(match verb {
         Verb::File => {
@@ -43,7 +43,7 @@ fn rest(heap: Global, verb: Verb, words: &mut Words) -> Result<Line, ReadError>
     })
 }
 
-// What a line says; none for one that is passed over.
+/// What a line says; none for one that is passed over.
 #[tactic(auto, unfolding(crate::specs::Lines::said_by))]
 pub fn read_line(heap: Global, line: &[u8]) -> Result<Option<Line>, ReadError>
     ensures { Reads (option_map said) result (said_in line.now) }
@@ -51,7 +51,7 @@ pub fn read_line(heap: Global, line: &[u8]) -> Result<Option<Line>, ReadError>
     if let [b'#', ..] = line {
         return Ok(None);
     }
-    let mut words = Words::of(line);
+    let mut words = Words::new(line);
     let Some(first) = words.next() else {
         return Ok(None);
     };

@@ -1,4 +1,4 @@
-// A line, written as its text.
+//! A line, written as its text.
 ghost use Rattle.std.specs.Prelude.{◌≡◌, Some};
 ghost use Rattle.offers.specs.Tables.{package_layout};
 ghost use Rattle.journals.specs.Chains.{joined_rules};
@@ -9,10 +9,8 @@ ghost use Rattle.journals.specs.Texts.{behind, kind_word, rule_word, kind_of, re
 use crate::answers::Behind;
 use crate::lines::Line;
 use crate::stacks::{Stack, Zones};
-use bounds::chains::Chain;
-use bounds::names::Named;
-use offers::memory::{Kind, Offer};
-use offers::records::Package;
+use bounds::{Chain, Named};
+use offers::{Kind, Offer, Package};
 use std::fmt;
 
 // The word for a kind.

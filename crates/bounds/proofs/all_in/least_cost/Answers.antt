@@ -1,4 +1,5 @@
 -- `least_cost`: at most 40 packages are counted in each loop, each of a price in range.
+use Rattle.std.specs.List.{list_all}
 use Rattle.std.proofs.Common.{◌≡◌, ℕ, ◌+◌, ◌*◌, ◌<◌, true, List, [], ◌∷◌, ◌++◌, length, get_or, take, vec_items, pos, negsuc, ◌+ℤ◌, ◌≤ℤ◌, sym, ap, ◌∙◌, arith, length-take}
 use Rattle.std.proofs.Math.Seq.{take-length}
 use Rattle.std.specs.Int.{int_min}
@@ -11,7 +12,7 @@ use Rattle.clearing.specs.declared.dockets.PricedPackage.{PricedPackage}
 use Rattle.clearing.specs.declared.dockets.Docket.{Docket}
 use Rattle.clearing.specs.Choices.{taken, cost}
 use Rattle.clearing.specs.Lawful.{view}
-use Rattle.clearing.specs.Ranges.{each, package_fits}
+use Rattle.clearing.specs.Ranges.{package_fits}
 use Rattle.clearing.proofs.Fits.{each_take, priced_ranges}
 use Rattle.clearing.proofs.Ranged.{ranged_docket}
 use Rattle.clearing.proofs.Takings.{walk, next-room, next-fits, next-added, taken-priced}
@@ -25,10 +26,10 @@ below_zero-last [] p = omega (arith, ints)
 below_zero-last (q ∷ ps) p = omega (arith, ints, below_zero-last ps p)
 
 -- packages in range count no more than the greatest price for each
-below_zero-between : (ps : List PricedPackage) → each package_fits ps ≡ true → (pos 0 ≤ℤ (below_zero ps +ℤ pos (20000000000 * length ps))) × (below_zero ps ≤ℤ pos 0)
+below_zero-between : (ps : List PricedPackage) → list_all package_fits ps ≡ true → (pos 0 ≤ℤ (below_zero ps +ℤ pos (20000000000 * length ps))) × (below_zero ps ≤ℤ pos 0)
 below_zero-between [] ok = (omega (arith, ints), omega (arith, ints))
 below_zero-between (p ∷ ps) ok =
-    let parts = and_parts (package_fits p) (each package_fits ps) ok in
+    let parts = and_parts (package_fits p) (list_all package_fits ps) ok in
     let r = priced_ranges p parts.0 in
     let rest = below_zero-between ps parts.1 in
     (omega (arith, ints, clamps), omega (arith, ints, clamps))

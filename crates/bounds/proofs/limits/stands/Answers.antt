@@ -1,7 +1,7 @@
 -- `stands`: what is tested over the sums is what is asked of the packages that they count.
 use Rattle.std.proofs.Common.{◌≡◌, Bool, true, false, ◌&&◌, vec_items, sym, ◌∙◌}
 use Rattle.std.proofs.lemmas.Bool.{and_left, and_right, both_ways}
-use Rattle.clearing.specs.Judging.{pairs_met, groups_apart, zones_within}
+use Rattle.clearing.specs.Judging.{pairs_kept, exclusions_kept, zones_kept}
 use Rattle.clearing.proofs.Judged.{pairs-tested, groups_tested, zones-tested}
 use Rattle.bounds.proofs.limits.stands.Goals as goal
 use Rattle.bounds.proofs.limits.stands.Goals.{then-pairs_kept, else-pairs_kept}
@@ -28,7 +28,7 @@ returns-else-exclusions_kept c T W counted others =
     let d = c.args.docket.now in
     let t = c.args.taken.now in
     let pairs = pairs-tested T t counted c.pairs_kept.result W c.args.possible.now others (vec_items d.pairs.list) d.pairs_fit c.pairs_kept.ensures in
-    let fails : (pairs_met (vec_items d.pairs.list) T W && (groups_apart (vec_items d.exclusions.list) T && zones_within (vec_items d.limits.list) T)) ≡ false =
+    let fails : (pairs_kept (vec_items d.pairs.list) T W && (exclusions_kept (vec_items d.exclusions.list) T && zones_kept (vec_items d.limits.list) T)) ≡ false =
     elim c.if-pairs_kept.branch [
       | then-pairs_kept w ↦
           let groups = groups_tested T t counted w.exclusions_kept.result (vec_items d.exclusions.list) d.exclusions_fit w.exclusions_kept.ensures in

@@ -1,9 +1,8 @@
 -- `heads`: a taken member more stands for its group if it is greater than those so far.
-use Rattle.std.proofs.Common.{◌≡◌, ℕ, ◌+◌, ◌-◌, ◌<◌, ◌≤◌, max, Bool, true, false, ◌&&◌, eqb, List, [], ◌∷◌, ◌++◌, length, get_or, set, take, sym, ap, ◌∙◌, ap₂, arith}
+use Rattle.std.proofs.Common.{◌≡◌, ℕ, ◌+◌, ◌-◌, ◌<◌, ◌≤◌, max, Bool, true, false, ◌&&◌, eqb, List, [], ◌∷◌, ◌++◌, length, get_or, set, take, sym, ap, ◌∙◌, ap₂, arith, cond}
 use Rattle.std.proofs.lemmas.List.{take_more}
 use Rattle.std.proofs.lemmas.Bool.{and_from, and_left, and_right, cond-true, cond-false, eq-eqb, ne_eqb}
 use Rattle.offers.specs.declared.records.Exclusion.{Exclusion}
-use Rattle.clearing.specs.Choices.{where_so}
 use Rattle.clearing.specs.Tallies.{row}
 use Rattle.clearing.proofs.Held.{no_exclusion, exclusion_held}
 use Rattle.clearing.proofs.Rows.{getD_row, row_same, row-set}
@@ -13,7 +12,7 @@ use Rattle.bounds.proofs.live.heads.Goals.{then-taken-exclusion, else-taken-excl
 
 -- what one exclusion counts in a group
 abbrev one_head : List Bool → ℕ → Exclusion → ℕ
-one_head takes group e = where_so (eqb e.group group && get_or takes e.member false) e.member
+one_head takes group e = cond (eqb e.group group && get_or takes e.member false) e.member 0
 
 -- with one more at the end
 head-last : (takes : List Bool) (group : ℕ) (es : List Exclusion) (e : Exclusion) → head takes (es ++ e ∷ []) group ≡ max (head takes es group) (one_head takes group e)

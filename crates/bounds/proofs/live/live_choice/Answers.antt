@@ -57,20 +57,20 @@ returns-then-not-stands c block =
     let d = c.args.docket.now in
     let v = view d in
     let b = span c.args.block in
-    let others = c.of-possible.ensures ∙ ap (λ n. tally_of (taken v.packages n)) c.last.ensures in
+    let others = c.new-possible.ensures ∙ ap (λ n. tally_of (taken v.packages n)) c.last.ensures in
     taken_none v.packages
-    ∙ sym (none-joins d (fixed v b) (possible v b) (sym (c.stands.ensures (fixed v b) (possible v b) c.of-fixed.ensures others) ∙ c.if-not-stands.true) (free_ones v b))
+    ∙ sym (none-joins d (fixed v b) (possible v b) (sym (c.stands.ensures (fixed v b) (possible v b) c.new-fixed.ensures others) ∙ c.if-not-stands.true) (free_ones v b))
 
 pub loop-place-init : goal.loop-place-init
 loop-place-init c = record { bound = omega arith; value = λ block. taken_none (vec_items c.args.docket.now.packages.list) }
 
 pub has_room-requires-clause-nameplate : goal.has_room-requires-clause-nameplate
 has_room-requires-clause-nameplate c =
-    (subst (Bounded 400000000) (sym c.of-fixed.ensures) (taken-bounded c.args.docket.now c.args.block.first)).nameplate
+    (subst (Bounded 400000000) (sym c.new-fixed.ensures) (taken-bounded c.args.docket.now c.args.block.first)).nameplate
 
 pub has_room-requires-clause-export : goal.has_room-requires-clause-export
 has_room-requires-clause-export c =
-    (subst (Bounded 400000000) (sym c.of-fixed.ensures) (taken-bounded c.args.docket.now c.args.block.first)).export
+    (subst (Bounded 400000000) (sym c.new-fixed.ensures) (taken-bounded c.args.docket.now c.args.block.first)).export
 
 pub loop-place-preserved : goal.loop-place-preserved
 loop-place-preserved c =
@@ -88,11 +88,11 @@ loop-place-preserved c =
     let next : 2 ^ (i + 1) ≡ 2 * 2 ^ i = rw (add-one i) (pow-succ' 2 i) in
     let p = get_or ps i no_package in
     let same = ap (λ qs. get_or qs i no_package) held in
-    let others = c.of-possible.ensures ∙ ap (λ n. tally_of (taken ps n)) c.last.ensures in
-    let bounded = subst (Bounded 400000000) (sym c.of-fixed.ensures) (taken-bounded d c.args.block.first) in
+    let others = c.new-possible.ensures ∙ ap (λ n. tally_of (taken ps n)) c.last.ensures in
+    let bounded = subst (Bounded 400000000) (sym c.new-fixed.ensures) (taken-bounded d c.args.block.first) in
     let says =
-    joins-passed d (fixed v b) (possible v b) c.of-fixed.result c.of-possible.result c.of-fixed.ensures others bounded
-    (sym (c.stands.ensures (fixed v b) (possible v b) c.of-fixed.ensures others) ∙ c.if-not-stands.false) p
+    joins-passed d (fixed v b) (possible v b) c.new-fixed.result c.new-possible.result c.new-fixed.ensures others bounded
+    (sym (c.stands.ensures (fixed v b) (possible v b) c.new-fixed.ensures others) ∙ c.if-not-stands.false) p
     (each_getD package_fits ps i no_package inside d.packages_fit) in
     let xs = vec_items d.exclusions.list in
     let ls = vec_items d.limits.list in
@@ -103,8 +103,8 @@ loop-place-preserved c =
     ap₂ (λ tests (q : PricedPackage). get_or tests q.number false)
     (c.apart-apart.ensures ∙ ap (λ hs. row (cleared (λ (e : Exclusion). e.member) (unopposed hs) xs) 0 41) c.heads.ensures) same in
     let rooms =
-    ap₂ (λ one other. room one other c.of-fixed.result (get_or c.deref-package-items.result.now i no_package).«record») c.tightest-interconnection.ensures c.tightest-export.ensures
-    ∙ ap (λ (q : PricedPackage). room from to c.of-fixed.result q.«record») same in
+    ap₂ (λ one other. room one other c.new-fixed.result (get_or c.deref-package-items.result.now i no_package).terms) c.tightest-interconnection.ensures c.tightest-export.ensures
+    ∙ ap (λ (q : PricedPackage). room from to c.new-fixed.result q.terms) same in
     elim c.if-place-block.branch [
       | then-place-block+then-met-number+then-apart-number+then-has_room w ↦
           let sum : c.if-place-block.live ≡ c.loop-place.live + 2 ^ i = omega (arith, w.live-is, shl) in

@@ -1,12 +1,13 @@
 -- `asked_above`: each band that pays above its market's multiplier asks for its quantity at its market's place, and for no more than there is room.
-use Rattle.std.proofs.Common.{◌≡◌, ℕ, ◌+◌, ◌-◌, ◌<◌, ◌≤◌, true, ◌&&◌, eqb, leb, ltb, List, [], ◌∷◌, length, get_or, set, take, vec_items, sym, refl, ap, ◌∙◌, subst, arith}
+use Rattle.std.specs.List.{list_all}
+use Rattle.std.proofs.Common.{◌≡◌, ℕ, ◌+◌, ◌-◌, ◌<◌, ◌≤◌, true, ◌&&◌, eqb, leb, ltb, List, [], ◌∷◌, length, get_or, set, take, vec_items, sym, refl, ap, ◌∙◌, subst, arith, cond}
 use Rattle.std.proofs.lemmas.List.{length-take, take_more}
 use Rattle.std.proofs.lemmas.Bool.{and_parts, cond_both, eqb-true, ltb-true}
 use Rattle.std.proofs.lemmas.Bool.Decides.{nat_tests}
 use Rattle.clearing.specs.declared.dockets.OpenBand.{OpenBand}
 use Rattle.clearing.specs.declared.dockets.Docket.{Docket}
-use Rattle.clearing.specs.Choices.{total, where_so}
-use Rattle.clearing.specs.Ranges.{each, band_fits}
+use Rattle.clearing.specs.Choices.{total}
+use Rattle.clearing.specs.Ranges.{band_fits}
 use Rattle.clearing.specs.Tallies.{row}
 use Rattle.clearing.proofs.Fits.{each_take, each-most, open_ranges}
 use Rattle.clearing.proofs.Held.{no_band, band_ranged}
@@ -19,32 +20,32 @@ use Rattle.bounds.proofs.multipliers.asked_above.Goals.{then-multipliers-market,
 
 -- what one band counts
 abbrev counted : Multipliers → ℕ → OpenBand → ℕ
-counted l m b = where_so (eqb b.«record».market m && ltb (unit_worth l m) b.«record».price) b.«record».quantity
+counted l m b = cond (eqb b.terms.market m && ltb (unit_worth l m) b.terms.price) b.terms.quantity 0
 
 -- a band of the market that pays above the worth counts its quantity
-counts : (l : Multipliers) (m : ℕ) (b : OpenBand) → b.«record».market ≡ m → unit_worth l m < b.«record».price → counted l m b ≡ b.«record».quantity
+counts : (l : Multipliers) (m : ℕ) (b : OpenBand) → b.terms.market ≡ m → unit_worth l m < b.terms.price → counted l m b ≡ b.terms.quantity
 counts l m b is above = grind (arith, nat_tests)
 
 -- one that pays no more than its market's, nothing in any
-counts-below : (l : Multipliers) (m : ℕ) (b : OpenBand) → b.«record».price ≤ unit_worth l b.«record».market → counted l m b ≡ 0
+counts-below : (l : Multipliers) (m : ℕ) (b : OpenBand) → b.terms.price ≤ unit_worth l b.terms.market → counted l m b ≡ 0
 counts-below l m b below =
-    cond_both (eqb b.«record».market m && ltb (unit_worth l m) b.«record».price) b.«record».quantity 0 (λ n. n ≡ 0)
+    cond_both (eqb b.terms.market m && ltb (unit_worth l m) b.terms.price) b.terms.quantity 0 (λ n. n ≡ 0)
     (λ both.
-    let parts = and_parts (eqb b.«record».market m) (ltb (unit_worth l m) b.«record».price) both in
-    absurd (omega (arith, below, ap (unit_worth l) (eqb-true b.«record».market m parts.0), ltb-true (unit_worth l m) b.«record».price parts.1)))
+    let parts = and_parts (eqb b.terms.market m) (ltb (unit_worth l m) b.terms.price) both in
+    absurd (omega (arith, below, ap (unit_worth l) (eqb-true b.terms.market m parts.0), ltb-true (unit_worth l m) b.terms.price parts.1)))
     (λ _. refl)
 
 -- nor does one of another market
-counts-elsewhere : (l : Multipliers) (m : ℕ) (b : OpenBand) → (b.«record».market ≡ m → ⊥) → counted l m b ≡ 0
+counts-elsewhere : (l : Multipliers) (m : ℕ) (b : OpenBand) → (b.terms.market ≡ m → ⊥) → counted l m b ≡ 0
 counts-elsewhere l m b not = grind (arith, nat_tests)
 
 -- the bands so far ask for no more than 64 can
 asked-few : (d : Docket) (l : Multipliers) (bs : List OpenBand) (i : ℕ) → bs ≡ vec_items d.bands.list
-    → each (λ n. leb n 6400000000) (row (asked_above (take i bs) l) 1 5) ≡ true
+    → list_all (λ n. leb n 6400000000) (row (asked_above (take i bs) l) 1 5) ≡ true
 asked-few d l bs i held =
     let few : length (take i bs) ≤ 64 = simp length-take (omega (arith, ap length held, (ranged_docket d).few_bands)) in
     totals_most band_fits (counted l) 64 100000000 6400000000 (take i bs) 1 5
-    (λ m b e. where_most _ b.«record».quantity 100000000 (open_ranges b e).of_record.quantity)
+    (λ m b e. where_most _ b.terms.quantity 100000000 (open_ranges b e).of_record.quantity)
     (each_take band_fits i bs (rw held d.bands_fit)) few (omega arith)
 
 module _ (l : Multipliers) (bs : List OpenBand) (i : ℕ) (inside : i < length bs) where
@@ -58,20 +59,20 @@ module _ (l : Multipliers) (bs : List OpenBand) (i : ℕ) (inside : i < length b
       omega (arith, ap (total (counted l m)) (take_more bs i no_band inside), total-append (counted l m) (take i bs) (next ∷ []))
 
   -- where it pays above its market's multiplier, its quantity is added at its market's place
-  asked-there : 1 ≤ next.«record».market → next.«record».market ≤ 5 → unit_worth l next.«record».market < next.«record».price
+  asked-there : 1 ≤ next.terms.market → next.terms.market ≤ 5 → unit_worth l next.terms.market < next.terms.price
       → (let so_far = row (asked_above (take i bs) l) 1 5 in
-      set so_far (next.«record».market - 1) (get_or so_far (next.«record».market - 1) 0 + next.«record».quantity)) ≡ row (asked_above (take (i + 1) bs) l) 1 5
+      set so_far (next.terms.market - 1) (get_or so_far (next.terms.market - 1) 0 + next.terms.quantity)) ≡ row (asked_above (take (i + 1) bs) l) 1 5
   asked-there low high above =
-      let place = next.«record».market - 1 in
-      let market : 1 + place ≡ next.«record».market = omega arith in
+      let place = next.terms.market - 1 in
+      let market : 1 + place ≡ next.terms.market = omega arith in
       let old : get_or (row (asked_above (take i bs) l) 1 5) place 0 ≡ asked_above (take i bs) l (1 + place) = getD_row (asked_above (take i bs) l) 1 5 place 0 (omega arith) in
-      let worth : unit_worth l (1 + place) < next.«record».price = subst (λ (m : ℕ). unit_worth l m < next.«record».price) (sym market) above in
+      let worth : unit_worth l (1 + place) < next.terms.price = subst (λ (m : ℕ). unit_worth l m < next.terms.price) (sym market) above in
       sym (row-set (asked_above (take i bs) l) (asked_above (take (i + 1) bs) l) _ 1 5 place
       (omega (arith, asked_more (1 + place), counts l (1 + place) next (sym market) worth, old))
       (λ m ne. omega (arith, asked_more m, counts-elsewhere l m next (λ e. ne (sym e ∙ sym market)))))
 
   -- where it pays no more, nothing is
-  asked-same : next.«record».price ≤ unit_worth l next.«record».market → row (asked_above (take i bs) l) 1 5 ≡ row (asked_above (take (i + 1) bs) l) 1 5
+  asked-same : next.terms.price ≤ unit_worth l next.terms.market → row (asked_above (take i bs) l) 1 5 ≡ row (asked_above (take (i + 1) bs) l) 1 5
   asked-same below =
       row_same (asked_above (take i bs) l) (asked_above (take (i + 1) bs) l) 1 5 (λ m h. omega (arith, asked_more m, counts-below l m next below))
 
@@ -79,8 +80,8 @@ pub overflow_add-asked : goal.overflow_add-asked
 overflow_add-asked c =
     let bs = c.deref-band-items.result.now in
     let r = band_ranged c.args.docket.now c.loop-band.band-index bs c.deref-band-items.ensures.value c.loop-band-test.true in
-    let few = subst (λ (xs : List ℕ). each (λ n. leb n 6400000000) xs ≡ true) (sym c.loop-band.invariant) (asked-few c.args.docket.now c.args.multipliers.now bs c.loop-band.band-index c.deref-band-items.ensures.value) in
-    omega (arith, r.of_record.quantity, each-most 6400000000 c.loop-band.asked ((get_or bs c.loop-band.band-index no_band).«record».market - 1) few)
+    let few = subst (λ (xs : List ℕ). list_all (λ n. leb n 6400000000) xs ≡ true) (sym c.loop-band.invariant) (asked-few c.args.docket.now c.args.multipliers.now bs c.loop-band.band-index c.deref-band-items.ensures.value) in
+    omega (arith, r.of_record.quantity, each-most 6400000000 c.loop-band.asked ((get_or bs c.loop-band.band-index no_band).terms.market - 1) few)
 
 pub loop-band-preserved : goal.loop-band-preserved
 loop-band-preserved c =
@@ -93,7 +94,7 @@ loop-band-preserved c =
     elim c.if-multipliers-market.branch [
       | then-multipliers-market w ↦
           w.asked-is
-          ∙ ap (λ xs. set xs (b.«record».market - 1) (get_or xs (b.«record».market - 1) 0 + b.«record».quantity)) c.loop-band.invariant
+          ∙ ap (λ xs. set xs (b.terms.market - 1) (get_or xs (b.terms.market - 1) 0 + b.terms.quantity)) c.loop-band.invariant
           ∙ asked-there l bs i inside r.of_record.market_least r.of_record.market w.if-multipliers-market.true
       | else-multipliers-market w ↦ w.asked-is ∙ c.loop-band.invariant ∙ asked-same l bs i inside w.if-multipliers-market.false
     ]

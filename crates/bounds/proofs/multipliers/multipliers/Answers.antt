@@ -1,19 +1,18 @@
 -- `multipliers`: each turn narrows once more, between prices of bands.
 use Rattle.std.proofs.Common.{◌≡◌, ℕ, zero, suc, ◌+◌, ◌/◌, ◌≤◌, Bool, true, cond, ◌&&◌, eqb, leb, ltb, List, [], ◌∷◌, vec_items, refl, sym, ap, ◌∙◌, add-one, subst, arith}
-use Rattle.std.specs.List.{AllByRecursion as Every}
+use Rattle.std.specs.List.{AllByRecursion as Every, list_all}
 use Rattle.std.proofs.lemmas.Bool.{cond_both, le-leb}
 use Rattle.clearing.specs.declared.dockets.PricedPackage.{PricedPackage}
 use Rattle.clearing.specs.declared.dockets.OpenBand.{OpenBand}
 use Rattle.clearing.specs.Choices.{taken, supply}
 use Rattle.clearing.specs.Lawful.{view}
-use Rattle.clearing.specs.Ranges.{each}
 use Rattle.clearing.specs.Tallies.{row}
 use Rattle.clearing.proofs.Filling.{ranged as ranges_of}
 use Rattle.clearing.proofs.Fits.{OpenRanges, each-most}
 use Rattle.clearing.proofs.Rows.{row-each, where_most}
 use Rattle.bounds.specs.declared.multipliers.Between.{Between}
 use Rattle.bounds.specs.Blocks.{span}
-use Rattle.bounds.specs.Multipliers.{Multipliers, unit_worth, price_at, middle, oversupplied, narrowed, narrowing, beginning}
+use Rattle.bounds.specs.Multipliers.{Multipliers, unit_worth, price_at, middle, oversupplied, narrowed, narrowing, widest}
 use Rattle.bounds.specs.Rules.{fixed}
 use Rattle.bounds.proofs.multipliers.multipliers.Goals as goal
 
@@ -30,7 +29,7 @@ narrowing_more times bands fixed free s = rw (add-one times) refl
 
 -- multipliers are no more than the greatest price
 abbrev Priced : Multipliers → Type 0
-Priced l = each (λ n. leb n 10000000) l ≡ true
+Priced l = list_all (λ n. leb n 10000000) l ≡ true
 
 -- so each is
 priced-at : (l : Multipliers) (m : ℕ) → Priced l → unit_worth l m ≤ 10000000
@@ -40,7 +39,7 @@ priced-at l m few = each-most 10000000 l _ few
 price-most : (m amount : ℕ) (bs : List OpenBand) → Every OpenRanges bs → price_at bs m amount ≤ 10000000
 price-most m amount [] ranges = omega arith
 price-most m amount (b ∷ bs) ranges =
-    let here = where_most (eqb b.«record».market m && ltb amount (b.ahead + b.«record».quantity)) b.«record».price 10000000 ranges.0.of_record.price in
+    let here = where_most (eqb b.terms.market m && ltb amount (b.ahead + b.terms.quantity)) b.terms.price 10000000 ranges.0.of_record.price in
     omega (arith, here, price-most m amount bs ranges.1)
 
 -- What multipliers are looked for between is no more than the greatest price.
@@ -63,7 +62,7 @@ pick-few test one other few less = cond_both test one other (λ n. n ≤ 1000000
 
 module _ (bands : List OpenBand) (ranges : Every OpenRanges bands) (fixed free : List PricedPackage) where
   -- nor is what bands pay
-  beginning_few : Within (beginning bands fixed free)
+  beginning_few : Within (widest bands fixed free)
   beginning_few = record {
     low = row_priced (λ m. price_at bands m (supply m fixed + supply m free)) (λ m. price-most m _ bands ranges);
     high = row_priced (λ m. price_at bands m (supply m fixed)) (λ m. price-most m _ bands ranges);
@@ -80,10 +79,10 @@ module _ (bands : List OpenBand) (ranges : Every OpenRanges bands) (fixed free :
       }
 
   -- nor any number of turns
-  narrowing_few : (times : ℕ) → Within (narrowing times bands fixed free (beginning bands fixed free))
+  narrowing_few : (times : ℕ) → Within (narrowing times bands fixed free (widest bands fixed free))
   unfolding narrowing
   narrowing_few zero = beginning_few
-  narrowing_few (suc times) = narrowed_few (narrowing times bands fixed free (beginning bands fixed free)) (narrowing_few times)
+  narrowing_few (suc times) = narrowed_few (narrowing times bands fixed free (widest bands fixed free)) (narrowing_few times)
 
 pub loop-turn-init : goal.loop-turn-init
 loop-turn-init c = c.beginning-between.ensures ∙ sym (narrowing-none _ _ _ _)

@@ -14,7 +14,7 @@ use Rattle.bounds.proofs.tangent.sold_above.Goals as goal
 
 -- what one band counts
 abbrev counted : Multipliers → List ℕ → List ℕ → OpenBand → ℕ
-counted l less more b = (filled more b - filled less b) * (b.«record».price - unit_worth l b.«record».market)
+counted l less more b = (filled more b - filled less b) * (b.terms.price - unit_worth l b.terms.market)
 
 -- with one band more
 sold_more : (l : Multipliers) (less more : List ℕ) (bs : List OpenBand) (i : ℕ) (d : OpenBand) → i < length bs
@@ -26,7 +26,7 @@ sold_more l less more bs i d inside =
 counted-most : (l : Multipliers) (less more : List ℕ) (b : OpenBand) → OpenRanges b → counted l less more b ≤ 1000000000000000
 counted-most l less more b r =
     let quantity : filled more b - filled less b ≤ 100000000 = omega (arith, r.of_record.quantity) in
-    let price : b.«record».price - unit_worth l b.«record».market ≤ 10000000 = omega (arith, r.of_record.price) in
+    let price : b.terms.price - unit_worth l b.terms.market ≤ 10000000 = omega (arith, r.of_record.price) in
     mul-le-mul quantity price
 
 -- what the band at a place of a docket is sold, read where the bands are walked over
@@ -38,7 +38,7 @@ served-at supply all bs i sold held inside is =
 -- so what it counts
 counted-at : (l : Multipliers) (less more : List ℕ) (all bs : List OpenBand) (i one other sold above : ℕ) → bs ≡ all → i < length bs
     → other ≡ get_or (map (filled more) all) i 0 → one ≡ get_or (map (filled less) all) i 0
-    → sold ≡ other - one → above ≡ (get_or bs i no_band).«record».price - unit_worth l (get_or bs i no_band).«record».market
+    → sold ≡ other - one → above ≡ (get_or bs i no_band).terms.price - unit_worth l (get_or bs i no_band).terms.market
     → sold * above ≡ counted l less more (get_or bs i no_band)
 counted-at l less more all bs i one other sold above held inside most least so paid =
     ap₂ (λ n k. n * k) (so ∙ ap₂ (λ n k. n - k) (served-at more all bs i other held inside most) (served-at less all bs i one held inside least)) paid

@@ -13,7 +13,7 @@ pub loop-i-preserved : goal.loop-i-preserved
 loop-i-preserved c =
     let es = c.args.ledger.now.entries in
     let i = c.loop-i.i in
-    let band : Numbered Band = record { number = c.args.at + 1; of = c.args.band.now } in
+    let band : Numbered Band = record { number = c.args.at + 1; terms = c.args.band.now } in
     let inside : i < length es = omega arith in
     elim c.match-entry.branch [
       | in-Open+then-comes_ahead w ↦

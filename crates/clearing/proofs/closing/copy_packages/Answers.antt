@@ -20,8 +20,8 @@ loop-i-preserved c =
           let stored = price-stored price fit in
           let past : i ≡ i + 1 - 1 = omega arith in
           rw w.into-is (one_more _ _ es c.loop-i.into.list i (omega arith) c.loop-i.invariant w.push.new.self.list r
-          (record { number = i + 1; price = to_z w64 (of_z w64 price); «record» = r }) w.in-Open.is
-          (ap (λ z. record { number = i + 1; price = z; «record» = r }) (stored ∙ ap (λ n. get_or c.args.prices.now n (pos 0)) past))
+          (record { number = i + 1; price = to_z w64 (of_z w64 price); terms = r }) w.in-Open.is
+          (ap (λ z. record { number = i + 1; price = z; terms = r }) (stored ∙ ap (λ n. get_or c.args.prices.now n (pos 0)) past))
           (and_from _ _ (open_fits package_layout es i r c.args.ledger.now.in_range w.in-Open.is)
           (and_from _ _ (within-from 1 40 (i + 1) (omega arith) (omega arith)) (subst (λ z. price_fits z ≡ true) (sym stored) fit)))
           w.push.ensures)

@@ -1,9 +1,9 @@
 -- `percentages`: the zone of a percentage has a place, where the lesser of two stands.
+use Rattle.std.specs.List.{list_all}
 use Rattle.std.proofs.Common.{◌≡◌, ℕ, List, min, true, leb, get_or, take, set, sym, ap, ◌∙◌, subst, ap₂, arith}
 use Rattle.std.proofs.lemmas.Bool.{eqb-true, eqb-false}
 use Rattle.std.proofs.lemmas.List.{take_more}
 use Rattle.clearing.specs.Lawful.{percentage}
-use Rattle.clearing.specs.Ranges.{each}
 use Rattle.clearing.specs.Tallies.{row}
 use Rattle.clearing.proofs.Held.{no_limit, limit_ranged}
 use Rattle.clearing.proofs.Percentages.{percentages_same, percentages_set, percentages_most}
@@ -36,5 +36,5 @@ loop-limit-preserved c =
 
 pub returns-clause-bound : goal.returns-clause-bound
 returns-clause-bound c =
-    subst (λ ps. each (λ n. leb n 100) ps ≡ true) (sym c.loop-limit.invariant)
+    subst (λ ps. list_all (λ n. leb n 100) ps ≡ true) (sym c.loop-limit.invariant)
     (percentages_most (take c.loop-limit.limit-index c.deref-limit-items.result.now) 1 4)

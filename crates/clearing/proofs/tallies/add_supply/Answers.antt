@@ -5,5 +5,5 @@ use Rattle.clearing.proofs.tallies.add_supply.Goals as goal
 
 pub returns : goal.returns
 returns c =
-    supply-added c.args.supply.now c.args.package.now.«record» c.told-supply
-    (priced_ranges c.args.package.now c.requires.fits).of_record
+    supply-added c.args.supply.now c.args.more.now.terms c.told-supply
+    (priced_ranges c.args.more.now c.requires.fits).of_record

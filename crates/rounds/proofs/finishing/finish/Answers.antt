@@ -7,13 +7,13 @@ use Rattle.rounds.proofs.Kept.{promised_again}
 use Rattle.rounds.proofs.finishing.finish.Goals as goal
 
 -- the same call once more
-again : (m : Model) (call : Call) (n : ℕ) → after_from m (replicate (suc n) call) ≡ (step (after_from m (replicate n call)) call).left
+again : (m : Model) (call : Call) (n : ℕ) → after_from m (replicate (suc n) call) ≡ (step (after_from m (replicate n call)) call).after
 again m call zero = refl
-again m call (suc n) = again (step m call).left call n
+again m call (suc n) = again (step m call).after call n
 
-once_more : (m at left : Model) (call : Call) (s : Stepped) → (n : ℕ) × (at ≡ after_from m (replicate n call)) → s ≡ step at call → left ≡ s.left → (n : ℕ) × (left ≡ after_from m (replicate n call))
+once_more : (m at left : Model) (call : Call) (s : Stepped) → (n : ℕ) × (at ≡ after_from m (replicate n call)) → s ≡ step at call → left ≡ s.after → (n : ℕ) × (left ≡ after_from m (replicate n call))
 once_more m at left call s led e l =
-    (suc led.0, l ∙ ap (λ (x : Stepped). x.left) e ∙ ap (λ (x : Model). (step x call).left) led.1 ∙ sym (again m call led.0))
+    (suc led.0, l ∙ ap (λ (x : Stepped). x.after) e ∙ ap (λ (x : Model). (step x call).after) led.1 ∙ sym (again m call led.0))
 
 pub turns-init : goal.turns-init
 turns-init g c = record { led = (0, refl); same_rule = refl }

@@ -1,6 +1,6 @@
 -- What the loop of `finish` keeps true: so many searches led to where it stands.
 use Rattle.std.proofs.Common.{◌≡◌, ℕ, replicate}
-use Rattle.search.specs.Search.{left}
+use Rattle.search.specs.Search.{work_left}
 use Rattle.rounds.specs.Model.{Search, after_from}
 use Rattle.rounds.specs.Views.{of_closed}
 use Rattle.rounds.proofs.finishing.finish.Given as goal
@@ -14,4 +14,4 @@ invariant-turns g l =
     }
 
 abbrev pub decreases-turns : goal.decreases-turns
-decreases-turns g l = left l.closed.at
+decreases-turns g l = work_left l.closed.at

@@ -6,7 +6,7 @@ use Rattle.rounds.proofs.replays.replay.Goals as goal
 
 pub returns : goal.returns
 returns g c = record {
-  left = grind (arith, common_steps);
+  round = grind (arith, common_steps);
   moments = grind (arith, common_steps);
   promised = promised_all _ (lawful_requests _ _ g.met.P.PriceRule.bounded g.met.B.BoundingRule.sound c.args.requests.items);
 }

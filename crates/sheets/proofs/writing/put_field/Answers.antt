@@ -12,7 +12,7 @@ returns g c =
     c.copy_from_slice.ensures.after
     ∙ rw (c.to_be_bytes.ensures, c.TAG.ensures, g.met.R.Record.tagged, c.content_bytes-content.ensures, c.byte.ensures) (simp div-one) in
     let done =
-    put_field k g.met.R.Record.lawful c.args.number (status_byte c.args.status) c.args.record.now c.args.at
+    put_field k g.met.R.Record.laws c.args.number (status_byte c.args.status) c.args.filed.now c.args.at
     c.content_bytes-content.result c.copy_from_slice.new.self c.write.new.out c.args.buffer.now c.requires.room
     c.content_bytes-content.ensures front c.write.ensures in
     record { end = done.ends; front = done.front; back = done.back }

@@ -14,4 +14,4 @@ returns-clause-value g c =
     let counted : c.count.result ≡ length (filter (λ e. not (is_vacant e)) es) =
     count_from_yields_List c.filter-held.result c.count.result c.count.ensures.ran
     (YieldsList-from_filter _ (λ e. not (is_vacant e)) (YieldsList-from_slice es cc) c.filter-held.ensures.closure (λ x b q k. search (rules, tests))) in
-    rw (counted, c.content_bytes.ensures) (omega (arith, length_register g.R.Record.layout g.met.R.Record.lawful 1 es))
+    rw (counted, c.content_bytes.ensures) (omega (arith, length_register g.R.Record.layout g.met.R.Record.laws 1 es))

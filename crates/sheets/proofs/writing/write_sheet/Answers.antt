@@ -1,7 +1,7 @@
 -- `write_sheet`: the registers, one after the other.
 use Rattle.std.proofs.Common.{rules}
-use Rattle.offers.specs.declared.memory.Kind.TheVariants as kind
-use Rattle.offers.specs.Memory.{held}
+use Rattle.offers.specs.declared.kinds.Kind.TheVariants as kind
+use Rattle.offers.specs.Memory.{entries_in}
 use Rattle.sheets.specs.Writing.{kind_bytes}
 use Rattle.sheets.proofs.Faithfulness.{faithful}
 use Rattle.sheets.proofs.Puts.{Put, put_both, writes}
@@ -11,13 +11,13 @@ pub returns-then-buffer-length : goal.returns-then-buffer-length
 returns-then-buffer-length c = record {
   answer = search rules;
   after = search rules;
-  faithful = faithful (held c.args.offers.now) c.sheet_length-length.ensures.sound;
+  faithful = faithful (entries_in c.args.offers.now) c.sheet_length-length.ensures.sound;
   carries = search rules;
 }
 
 pub returns : goal.returns
 returns c =
-    let all = held c.args.offers.now in
+    let all = entries_in c.args.offers.now in
     let packages : Put 0 c.put_register-at.result (kind_bytes all kind.Package) c.args.buffer.now c.put_register-at.new.buffer =
     let put = c.put_register-at.ensures in record { ends = put.end; front = put.front; back = put.back } in
     let bands : Put c.put_register-at.result c.put_register-at-2.result (kind_bytes all kind.Band) c.put_register-at.new.buffer c.put_register-at-2.new.buffer =

@@ -8,20 +8,20 @@ use Rattle.bounds.proofs.all_in.AllInBoundingRule.consult.Goals as goal
 
 pub overflow_cast-result : goal.overflow_cast-result
 overflow_cast-result c =
-    let sold = subst Sold (sym c.sell-sales.ensures) (sold_in_all c.of-all.result.supply c.args.docket.now) in
+    let sold = subst Sold (sym c.sell-sales.ensures) (sold_in_all c.new-all.result.supply c.args.docket.now) in
     omega (arith, ints, sold.income)
 
 pub overflow_sub-result : goal.overflow_sub-result
 overflow_sub-result c =
-    let sold = subst Sold (sym c.sell-sales.ensures) (sold_in_all c.of-all.result.supply c.args.docket.now) in
+    let sold = subst Sold (sym c.sell-sales.ensures) (sold_in_all c.new-all.result.supply c.args.docket.now) in
     omega (arith, ints, sold.income, c.least_cost.ensures.low, c.least_cost.ensures.high)
 
 pub returns : goal.returns
 returns c =
     let d = c.args.docket.now in
-    let sold = subst Sold (sym c.sell-sales.ensures) (sold_in_all c.of-all.result.supply d) in
+    let sold = subst Sold (sym c.sell-sales.ensures) (sold_in_all c.new-all.result.supply d) in
     let brings =
-    income-is d c.last.result c.of-all.result c.sell-sales.result c.of-all.ensures c.sell-sales.ensures
+    income-is d c.last.result c.new-all.result c.sell-sales.result c.new-all.ensures c.sell-sales.ensures
     ∙ ap (λ choice. income (vec_items d.bands.list) (filled_sales (view d) choice)) c.last.ensures in
     let costs = c.least_cost.ensures in
     record {

@@ -4,11 +4,11 @@ use Rattle.std.specs.Int.{int_max}
 use Rattle.std.proofs.lemmas.Nat.{one_shl}
 use Rattle.std.proofs.lemmas.Int.{ints, clamps}
 use Rattle.clearing.specs.Lawful.{View, view}
-use Rattle.bounds.specs.Rules.{unlimited, gains}
+use Rattle.bounds.specs.Rules.{unlimited, lone_gains}
 use Rattle.bounds.proofs.one_by_one.OneByOneBoundingRule.consult.Goals as goal
 
 -- one digit more
-gains_more : (v : View) (choice digit : ℕ) → gains v choice (digit + 1) ≡ gains v choice digit +ℤ int_max (unlimited v (choice + 2 ^ digit) -ℤ unlimited v choice) (pos 0)
+gains_more : (v : View) (choice digit : ℕ) → lone_gains v choice (digit + 1) ≡ lone_gains v choice digit +ℤ int_max (unlimited v (choice + 2 ^ digit) -ℤ unlimited v choice) (pos 0)
 gains_more v choice digit = rw (add-one digit) refl
 
 pub loop-digit-preserved : goal.loop-digit-preserved

@@ -1,6 +1,6 @@
 -- `close`: what was copied is what a closing makes of the entries.
 use Rattle.std.proofs.Common.{◌≡◌, map, Ok, sym, ap, ◌∙◌, subst}
-use Rattle.offers.specs.Memory.{held}
+use Rattle.offers.specs.Memory.{entries_in}
 use Rattle.offers.proofs.Soundness.{sound-held}
 use Rattle.clearing.specs.Bands.{aheads, true_aheads}
 use Rattle.clearing.specs.Closing.{open_from}
@@ -20,17 +20,17 @@ invariant_of-self-clause-bands_ahead g c = subst (λ bs. aheads bs ≡ true_ahea
 pub returns : goal.returns
 returns g c =
     let before = view c.args.self.now in
-    let all = held c.args.offers.now in
+    let all = entries_in c.args.offers.now in
     let meaning = g.P.PriceRule.meaning c.args.rule.now in
     let prices = c.in_ok-prices.prices in
     let ps = map (at_price prices) (open_from 1 all.packages) in
     let prices-are = priced_all meaning all.packages prices c.in_ok-prices.ensures.answer in
     let made = closing-priced before all meaning ps prices-are in
     let docket = docket_is _ all ps c.copy_packages.ensures.items c.copy_bands.ensures.items c.copy_open.ensures.items c.copy_open-2.ensures.items c.copy_open-3.ensures.items in
-    let accepted = closing-priced nothing_open all meaning ps prices-are ∙ ap (λ v. record { answer = Ok tt; left = v }) (sym docket) in
+    let accepted = closing-priced nothing_open all meaning ps prices-are ∙ ap (λ v. record { answer = Ok tt; after = v }) (sym docket) in
     record {
       answer = ap (λ o. o.answer) (sym made);
-      after = docket ∙ ap (λ o. o.left) (sym made);
+      after = docket ∙ ap (λ o. o.after) (sym made);
       same_rule = c.price_all.ensures.same_rule;
       by_closing = λ _. record {
         entries = all;

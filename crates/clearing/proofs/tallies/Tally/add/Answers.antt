@@ -7,11 +7,11 @@ use Rattle.clearing.proofs.Fits.{each-most, priced_ranges}
 use Rattle.clearing.proofs.tallies.Tally.add.Goals as goal
 use Rattle.clearing.proofs.tallies.Tally.add.Goals.{then-is_dated, else-is_dated, then-is_dated-2, else-is_dated-2}
 
-pub bounds-self-record : goal.bounds-self-record
-bounds-self-record c = let r = priced_ranges c.args.package.now c.requires.fits in omega arith
+pub bounds-self-terms : goal.bounds-self-terms
+bounds-self-terms c = let r = priced_ranges c.args.more.now c.requires.fits in omega arith
 
-pub overflow_add-self-then-record-eq1 : goal.overflow_add-self-then-record-eq1
-overflow_add-self-then-record-eq1 c =
+pub overflow_add-self-then-terms-eq1 : goal.overflow_add-self-then-terms-eq1
+overflow_add-self-then-terms-eq1 c =
     let second : c.if-is_dated-2.self.nameplate ≡ c.if-is_dated.self.nameplate =
     elim c.if-is_dated-2.branch [
       | then-is_dated-2 w ↦ ap (λ (t : Tally). t.nameplate) w.self-is
@@ -22,18 +22,18 @@ overflow_add-self-then-record-eq1 c =
       | then-is_dated w ↦ ap (λ (t : Tally). t.nameplate) w.self-is
       | else-is_dated w ↦ ap (λ (t : Tally). t.nameplate) w.self-is
     ] in
-    let r = priced_ranges c.args.package.now c.requires.fits in
-    let i = c.args.package.now.«record».interconnection_zone - 1 in
+    let r = priced_ranges c.args.more.now c.requires.fits in
+    let i = c.args.more.now.terms.interconnection_zone - 1 in
     omega (arith, ap (λ xs. get_or xs i 0) (second ∙ first), each-most 390000000 c.args.self.now.nameplate i c.requires.room.nameplate)
 
-pub overflow_sub-self-then-record-eq1 : goal.overflow_sub-self-then-record-eq1
-overflow_sub-self-then-record-eq1 c = let r = priced_ranges c.args.package.now c.requires.fits in omega arith
+pub overflow_sub-self-then-terms-eq1 : goal.overflow_sub-self-then-terms-eq1
+overflow_sub-self-then-terms-eq1 c = let r = priced_ranges c.args.more.now c.requires.fits in omega arith
 
-pub bounds-self-record-then-record-eq1-2 : goal.bounds-self-record-then-record-eq1-2
-bounds-self-record-then-record-eq1-2 c = let r = priced_ranges c.args.package.now c.requires.fits in omega arith
+pub bounds-self-terms-then-terms-eq1-2 : goal.bounds-self-terms-then-terms-eq1-2
+bounds-self-terms-then-terms-eq1-2 c = let r = priced_ranges c.args.more.now c.requires.fits in omega arith
 
-pub overflow_add-self-then-record-eq1-2 : goal.overflow_add-self-then-record-eq1-2
-overflow_add-self-then-record-eq1-2 c =
+pub overflow_add-self-then-terms-eq1-2 : goal.overflow_add-self-then-terms-eq1-2
+overflow_add-self-then-terms-eq1-2 c =
     let second : c.if-is_dated-2.self.export ≡ c.if-is_dated.self.export =
     elim c.if-is_dated-2.branch [
       | then-is_dated-2 w ↦ ap (λ (t : Tally). t.export) w.self-is
@@ -44,57 +44,57 @@ overflow_add-self-then-record-eq1-2 c =
       | then-is_dated w ↦ ap (λ (t : Tally). t.export) w.self-is
       | else-is_dated w ↦ ap (λ (t : Tally). t.export) w.self-is
     ] in
-    let r = priced_ranges c.args.package.now c.requires.fits in
-    let i = c.args.package.now.«record».export_zone - 1 in
+    let r = priced_ranges c.args.more.now c.requires.fits in
+    let i = c.args.more.now.terms.export_zone - 1 in
     omega (arith, ap (λ xs. get_or xs i 0) (second ∙ first), each-most 390000000 c.args.self.now.export i c.requires.room.export)
 
-pub overflow_cast-self-then-record-eq1-4 : goal.overflow_cast-self-then-record-eq1-4
-overflow_cast-self-then-record-eq1-4 c = let r = priced_ranges c.args.package.now c.requires.fits in search (rules, arith)
+pub overflow_cast-self-then-terms-eq1-4 : goal.overflow_cast-self-then-terms-eq1-4
+overflow_cast-self-then-terms-eq1-4 c = let r = priced_ranges c.args.more.now c.requires.fits in search (rules, arith)
 
-pub offset_bounds-self-record-then-record-eq1 : goal.offset_bounds-self-record-then-record-eq1
-offset_bounds-self-record-then-record-eq1 c = let r = priced_ranges c.args.package.now c.requires.fits in omega arith
+pub offset_bounds-self-terms-then-terms-eq1 : goal.offset_bounds-self-terms-then-terms-eq1
+offset_bounds-self-terms-then-terms-eq1 c = let r = priced_ranges c.args.more.now c.requires.fits in omega arith
 
-pub bounds-self-record-then-record-eq1-3 : goal.bounds-self-record-then-record-eq1-3
-bounds-self-record-then-record-eq1-3 c = let r = priced_ranges c.args.package.now c.requires.fits in omega arith
+pub bounds-self-terms-then-terms-eq1-3 : goal.bounds-self-terms-then-terms-eq1-3
+bounds-self-terms-then-terms-eq1-3 c = let r = priced_ranges c.args.more.now c.requires.fits in omega arith
 
-pub returns-then-record-eq1 : goal.returns-then-record-eq1
-returns-then-record-eq1 c =
+pub returns-then-terms-eq1 : goal.returns-then-terms-eq1
+returns-then-terms-eq1 c =
     let t = c.args.self.now in
-    let p = c.args.package.now in
+    let p = c.args.more.now in
     let ranges = priced_ranges p c.requires.fits in
     let u = c.if-is_dated.self in
     let base = begun t p c.add_supply.new.supply in
     let first : u ≡ with_before (on_date t p 1 t.before) base =
     elim c.if-is_dated.branch [
-      | then-is_dated w ↦ w.self-is ∙ ap (λ xs. with_before xs base) (dated_yes t p 1 t.before _ (eqb-true p.«record».date 1 (sym w.if-is_dated.ensures)) w.add_supply-then-is_dated.ensures)
-      | else-is_dated w ↦ w.self-is ∙ ap (λ xs. with_before xs base) (dated_no t p 1 t.before (eqb-false p.«record».date 1 (sym w.if-is_dated.ensures)))
+      | then-is_dated w ↦ w.self-is ∙ ap (λ xs. with_before xs base) (dated_yes t p 1 t.before _ (eqb-true p.terms.date 1 (sym w.if-is_dated.ensures)) w.add_supply-then-is_dated.ensures)
+      | else-is_dated w ↦ w.self-is ∙ ap (λ xs. with_before xs base) (dated_no t p 1 t.before (eqb-false p.terms.date 1 (sym w.if-is_dated.ensures)))
     ] in
     let second : c.if-is_dated-2.self ≡ with_after (on_date t p 2 u.after) u =
     elim c.if-is_dated-2.branch [
-      | then-is_dated-2 w ↦ w.self-is ∙ ap (λ xs. with_after xs u) (dated_yes t p 2 u.after _ (eqb-true p.«record».date 2 (sym w.if-is_dated-2.ensures)) w.add_supply-then-is_dated-2.ensures)
-      | else-is_dated-2 w ↦ w.self-is ∙ ap (λ xs. with_after xs u) (dated_no t p 2 u.after (eqb-false p.«record».date 2 (sym w.if-is_dated-2.ensures)))
+      | then-is_dated-2 w ↦ w.self-is ∙ ap (λ xs. with_after xs u) (dated_yes t p 2 u.after _ (eqb-true p.terms.date 2 (sym w.if-is_dated-2.ensures)) w.add_supply-then-is_dated-2.ensures)
+      | else-is_dated-2 w ↦ w.self-is ∙ ap (λ xs. with_after xs u) (dated_no t p 2 u.after (eqb-false p.terms.date 2 (sym w.if-is_dated-2.ensures)))
     ] in
     let long : Sized t = record { supply = omega arith; before = omega arith; after = omega arith; nameplate = omega arith; export = omega arith } in
     let dated = dated-is t p c.requires.room ranges c.add_supply.new.supply u c.if-is_dated-2.self c.add_supply.ensures first second in
-    ap (zoned t p) dated ∙ added-zoned t p long ranges c.if-record-eq1.true
+    ap (zoned t p) dated ∙ added-zoned t p long ranges c.if-terms-eq1.true
 
-pub returns-else-record-eq1 : goal.returns-else-record-eq1
-returns-else-record-eq1 c =
+pub returns-else-terms-eq1 : goal.returns-else-terms-eq1
+returns-else-terms-eq1 c =
     let t = c.args.self.now in
-    let p = c.args.package.now in
+    let p = c.args.more.now in
     let ranges = priced_ranges p c.requires.fits in
     let u = c.if-is_dated.self in
     let base = begun t p c.add_supply.new.supply in
     let first : u ≡ with_before (on_date t p 1 t.before) base =
     elim c.if-is_dated.branch [
-      | then-is_dated w ↦ w.self-is ∙ ap (λ xs. with_before xs base) (dated_yes t p 1 t.before _ (eqb-true p.«record».date 1 (sym w.if-is_dated.ensures)) w.add_supply-then-is_dated.ensures)
-      | else-is_dated w ↦ w.self-is ∙ ap (λ xs. with_before xs base) (dated_no t p 1 t.before (eqb-false p.«record».date 1 (sym w.if-is_dated.ensures)))
+      | then-is_dated w ↦ w.self-is ∙ ap (λ xs. with_before xs base) (dated_yes t p 1 t.before _ (eqb-true p.terms.date 1 (sym w.if-is_dated.ensures)) w.add_supply-then-is_dated.ensures)
+      | else-is_dated w ↦ w.self-is ∙ ap (λ xs. with_before xs base) (dated_no t p 1 t.before (eqb-false p.terms.date 1 (sym w.if-is_dated.ensures)))
     ] in
     let second : c.if-is_dated-2.self ≡ with_after (on_date t p 2 u.after) u =
     elim c.if-is_dated-2.branch [
-      | then-is_dated-2 w ↦ w.self-is ∙ ap (λ xs. with_after xs u) (dated_yes t p 2 u.after _ (eqb-true p.«record».date 2 (sym w.if-is_dated-2.ensures)) w.add_supply-then-is_dated-2.ensures)
-      | else-is_dated-2 w ↦ w.self-is ∙ ap (λ xs. with_after xs u) (dated_no t p 2 u.after (eqb-false p.«record».date 2 (sym w.if-is_dated-2.ensures)))
+      | then-is_dated-2 w ↦ w.self-is ∙ ap (λ xs. with_after xs u) (dated_yes t p 2 u.after _ (eqb-true p.terms.date 2 (sym w.if-is_dated-2.ensures)) w.add_supply-then-is_dated-2.ensures)
+      | else-is_dated-2 w ↦ w.self-is ∙ ap (λ xs. with_after xs u) (dated_no t p 2 u.after (eqb-false p.terms.date 2 (sym w.if-is_dated-2.ensures)))
     ] in
     let long : Sized t = record { supply = omega arith; before = omega arith; after = omega arith; nameplate = omega arith; export = omega arith } in
     let dated = dated-is t p c.requires.room ranges c.add_supply.new.supply u c.if-is_dated-2.self c.add_supply.ensures first second in
-    dated ∙ added-plain t p long ranges c.if-record-eq1.false
+    dated ∙ added-plain t p long ranges c.if-terms-eq1.false

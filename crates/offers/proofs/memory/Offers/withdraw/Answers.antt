@@ -1,33 +1,33 @@
 -- What withdrawing in the entries of one kind's ledger ensures, as what it ensures of all offers; and they are a ledger's again.
-use Rattle.offers.specs.declared.memory.Kind.TheVariants as kind
-use Rattle.offers.specs.Memory.{held}
+use Rattle.offers.specs.declared.kinds.Kind.TheVariants as kind
+use Rattle.offers.specs.Memory.{entries_in}
 use Rattle.offers.proofs.LedgerLaws.{withdrawing-is_ledger}
 use Rattle.offers.proofs.MemoryLaws.{withdrawn}
 use Rattle.offers.proofs.memory.Offers.withdraw.Goals as goal
 
 pub returns-in-Package : goal.returns-in-Package
 returns-in-Package c =
-    let d = withdrawn (held c.args.self.now) c.args.kind c.args.number kind.Package c.in-Package.is _ _ c.withdraw.ensures.answer c.withdraw.ensures.after in
+    let d = withdrawn (entries_in c.args.self.now) c.args.kind c.args.number kind.Package c.in-Package.is _ _ c.withdraw.ensures.answer c.withdraw.ensures.after in
     record { answer = d.answer_is; after = d.after_is; kept = d.kept }
 
 pub returns-in-Band : goal.returns-in-Band
 returns-in-Band c =
-    let d = withdrawn (held c.args.self.now) c.args.kind c.args.number kind.Band c.in-Band.is _ _ c.withdraw-in-Band.ensures.answer c.withdraw-in-Band.ensures.after in
+    let d = withdrawn (entries_in c.args.self.now) c.args.kind c.args.number kind.Band c.in-Band.is _ _ c.withdraw-in-Band.ensures.answer c.withdraw-in-Band.ensures.after in
     record { answer = d.answer_is; after = d.after_is; kept = d.kept }
 
 pub returns-in-Pair : goal.returns-in-Pair
 returns-in-Pair c =
-    let d = withdrawn (held c.args.self.now) c.args.kind c.args.number kind.Pair c.in-Pair.is _ _ c.withdraw-in-Pair.ensures.answer c.withdraw-in-Pair.ensures.after in
+    let d = withdrawn (entries_in c.args.self.now) c.args.kind c.args.number kind.Pair c.in-Pair.is _ _ c.withdraw-in-Pair.ensures.answer c.withdraw-in-Pair.ensures.after in
     record { answer = d.answer_is; after = d.after_is; kept = d.kept }
 
 pub returns-in-Exclusion : goal.returns-in-Exclusion
 returns-in-Exclusion c =
-    let d = withdrawn (held c.args.self.now) c.args.kind c.args.number kind.Exclusion c.in-Exclusion.is _ _ c.withdraw-in-Exclusion.ensures.answer c.withdraw-in-Exclusion.ensures.after in
+    let d = withdrawn (entries_in c.args.self.now) c.args.kind c.args.number kind.Exclusion c.in-Exclusion.is _ _ c.withdraw-in-Exclusion.ensures.answer c.withdraw-in-Exclusion.ensures.after in
     record { answer = d.answer_is; after = d.after_is; kept = d.kept }
 
 pub returns-in-Limit : goal.returns-in-Limit
 returns-in-Limit c =
-    let d = withdrawn (held c.args.self.now) c.args.kind c.args.number kind.Limit c.in-Limit.is _ _ c.withdraw-in-Limit.ensures.answer c.withdraw-in-Limit.ensures.after in
+    let d = withdrawn (entries_in c.args.self.now) c.args.kind c.args.number kind.Limit c.in-Limit.is _ _ c.withdraw-in-Limit.ensures.answer c.withdraw-in-Limit.ensures.after in
     record { answer = d.answer_is; after = d.after_is; kept = d.kept }
 
 pub invariant_of-self : goal.invariant_of-self

@@ -15,16 +15,16 @@ module _ (below product : ℤ) (rate : ℕ)
   product_fits : SFits w64 (to_z w64 (of_z w64 below) *ℤ to_z w64 (of_z w64 product))
   product_fits = rw product_read (omega (arith, ints, product_span below rate 20000000000 220000000 span most))
 
-pub returns-then-package-eq1 : goal.returns-then-package-eq1
-returns-then-package-eq1 g c =
+pub returns-then-terms-eq1 : goal.returns-then-terms-eq1
+returns-then-terms-eq1 g c =
     let rates = c.args.self.now.rates in
     let rate = rates.preference * rates.expectation in
     let below = c.in_ok-below.below in
     let product = c.product.result in
     let most : rate ≤ 220000000 = omega (arith, ints) in
-    let priced = g.P.PriceRule.meaning c.args.self.now.below c.args.package.now in
+    let priced = g.P.PriceRule.meaning c.args.self.now.below c.args.terms.now in
     let came : Ok c.in_ok-below.below ≡ priced = search rules in
-    let bounded = g.met.P.PriceRule.bounded c.args.self.now.below c.args.package.now in
+    let bounded = g.met.P.PriceRule.bounded c.args.self.now.below c.args.terms.now in
     let span = price_span priced came bounded in
     let fits = product_fits below product rate span c.product.ensures.value most in
     let read = product_read below product rate span c.product.ensures.value most in
@@ -39,7 +39,7 @@ returns-then-package-eq1 g c =
             read,
             c.depth-depth.ensures,
             ← came,
-            c.if-package-eq1.true,
+            c.if-terms-eq1.true,
           );
       same =
           ap₂ (λ m depth p. currency_price rates.preference rates.expectation (above depth) (m p) p)

@@ -41,15 +41,15 @@ module _ (zones : ZoneNumbers) (place : ℕ) (number : ℤ) (energy : ℕ)
 
 pub overflow_mul-number : goal.overflow_mul-number
 overflow_mul-number g c =
-    product_fits c.args.self.now.numbers _ c.of_zone-number.result c.args.package.now.energy
+    product_fits c.args.self.now.numbers _ c.of_zone-number.result c.args.terms.now.energy
     c.of_zone-number.ensures (search rules)
 
 pub overflow_add-below : goal.overflow_add-below
 overflow_add-below g c =
-    let priced = g.P.PriceRule.meaning c.args.self.now.below c.args.package.now in
+    let priced = g.P.PriceRule.meaning c.args.self.now.below c.args.terms.now in
     let came : Ok c.in_ok-below.below ≡ priced = search rules in
-    let bounded = g.met.P.PriceRule.bounded c.args.self.now.below c.args.package.now in
-    sum_fits c.args.self.now.numbers _ c.of_zone-number.result c.args.package.now.energy
+    let bounded = g.met.P.PriceRule.bounded c.args.self.now.below c.args.terms.now in
+    sum_fits c.args.self.now.numbers _ c.of_zone-number.result c.args.terms.now.energy
     c.of_zone-number.ensures (search rules) c.in_ok-below.below
     (price_span priced came bounded)
 
@@ -57,12 +57,12 @@ pub returns : goal.returns
 returns g c =
     let zones = c.args.self.now.numbers in
     let number = c.of_zone-number.result in
-    let energy = c.args.package.now.energy in
+    let energy = c.args.terms.now.energy in
     let below = c.in_ok-below.below in
     let room : energy < 2 ^ 32 = search rules in
-    let priced = g.P.PriceRule.meaning c.args.self.now.below c.args.package.now in
+    let priced = g.P.PriceRule.meaning c.args.self.now.below c.args.terms.now in
     let came : Ok c.in_ok-below.below ≡ priced = search rules in
-    let bounded = g.met.P.PriceRule.bounded c.args.self.now.below c.args.package.now in
+    let bounded = g.met.P.PriceRule.bounded c.args.self.now.below c.args.terms.now in
     let span = price_span priced came bounded in
     let fits = sum_fits zones _ number energy c.of_zone-number.ensures room below span in
     let read = sum_read zones _ number energy c.of_zone-number.ensures room below span in

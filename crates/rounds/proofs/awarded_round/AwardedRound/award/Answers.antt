@@ -13,7 +13,7 @@ copy_from_slice-requires c = length-take-le 64 c.args.row.now c.if-row-lt64.fals
 
 pub returns-then-row-lt64 : goal.returns-then-row-lt64
 returns-then-row-lt64 c =
-    serves (of_awarded c.args.self.now) (ReadAward c.args.row.now) (gave (of_awarded c.args.self.now) (Awarded (Err c.of.result) c.args.row.now)) tt (search rules)
+    serves (of_awarded c.args.self.now) (ReadAward c.args.row.now) (gave (of_awarded c.args.self.now) (Awarded (Err c.code_only.result) c.args.row.now)) tt (search rules)
 
 pub returns : goal.returns
 returns c =

@@ -7,7 +7,7 @@ use Rattle.std.proofs.Common.{◌≡◌, ℕ, ◌<◌, ◌≤◌, sym, ap, ◌�
 use Rattle.std.proofs.lemmas.Bool.{cases_lt, eq-eqb}
 use Rattle.clearing.specs.Lawful.{View, view, choices}
 use Rattle.bounds.specs.Blocks.{Answers}
-use Rattle.search.specs.Search.{Standing, Placed, standing, steps}
+use Rattle.search.specs.Search.{Standing, Placed, standing, after_steps}
 use Rattle.search.proofs.Placings.{finished-stays}
 use Rattle.rounds.specs.declared.closed_round.Searched.{Searched}
 use Rattle.rounds.specs.Views.{Falls}
@@ -17,7 +17,7 @@ use Rattle.rounds.proofs.closed_round.ClosedRound.search.Goals as goal
 
 pub returns-then-not-contains-clause-served : goal.returns-then-not-contains-clause-served
 returns-then-not-contains-clause-served g c =
-    serves (of_closed c.args.self) (Search (g.B.BoundingRule.answers c.args.rule.now) c.args.steps) (gave (of_closed c.args.self) (Found (Err c.of.result)))
+    serves (of_closed c.args.self) (Search (g.B.BoundingRule.answers c.args.rule.now) c.args.steps) (gave (of_closed c.args.self) (Found (Err c.code_only.result)))
     (g.met.B.BoundingRule.sound c.args.rule.now) (search rules)
 
 pub returns-clause-served : goal.returns-clause-served
@@ -26,7 +26,7 @@ returns-clause-served g c =
     (g.met.B.BoundingRule.sound c.args.rule.now) (search rules)
 
 -- a search that is not finished after some steps was not before them
-was_open : (rule : Answers) (v : View) (count : ℕ) (from to : Standing) → Placed v from → to ≡ steps rule v count from → (to.settled ≡ choices v → ⊥) → from.settled < choices v
+was_open : (rule : Answers) (v : View) (count : ℕ) (from to : Standing) → Placed v from → to ≡ after_steps rule v count from → (to.settled ≡ choices v → ⊥) → from.settled < choices v
 was_open rule v count from to placed is left =
     ⊎_elim (λ (h : from.settled < choices v). h)
     (λ (h : choices v ≤ from.settled).

@@ -1,6 +1,6 @@
 -- `close`: it does what the plain round's step does.
 use Rattle.std.proofs.Common.{rules}
-use Rattle.offers.specs.Memory.{held}
+use Rattle.offers.specs.Memory.{entries_in}
 use Rattle.std.proofs.Common.{Ok, Err}
 use Rattle.clearing.specs.Lawful.{view}
 use Rattle.search.specs.Search.{standing}
@@ -12,7 +12,7 @@ use Rattle.rounds.proofs.open_round.OpenRound.close.Goals as goal
 pub returns-in-Ok-clause-served : goal.returns-in-Ok-clause-served
 returns-in-Ok-clause-served g c =
     serves (of_open c.args.self) (Close (g.P.PriceRule.meaning c.args.rule.now))
-    (gave (model (held c.args.self.offers) (IsClosed (view c.close.new.self) (standing c.start.result))) (Done (Ok tt)))
+    (gave (model (entries_in c.args.self.offers) (IsClosed (view c.close.new.self) (standing c.start.result))) (Done (Ok tt)))
     (g.met.P.PriceRule.bounded c.args.rule.now) (search rules)
 
 pub returns-in-Err-clause-served : goal.returns-in-Err-clause-served

@@ -1,7 +1,7 @@
 -- `write` of a package: field by field, until the slice is full.
 use Rattle.std.proofs.Common.{arith}
 use Rattle.offers.specs.HighFirst.{filled}
-use Rattle.offers.proofs.kinds.PackageRecord.write.Goals as goal
+use Rattle.offers.proofs.layouts.PackageRecord.write.Goals as goal
 
 pub returns : goal.returns
 returns c =

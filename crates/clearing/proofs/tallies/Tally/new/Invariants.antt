@@ -2,7 +2,7 @@
 use Rattle.std.proofs.Common.{◌≡◌, length, take, vec_items}
 use Rattle.clearing.specs.Choices.{taken}
 use Rattle.clearing.specs.Tallies.{tally_of}
-use Rattle.clearing.proofs.tallies.Tally.of.Given as goal
+use Rattle.clearing.proofs.tallies.Tally.new.Given as goal
 
 abbrev pub invariant-loop-package : goal.invariant-loop-package
 invariant-loop-package l = l.sums ≡ tally_of (take (length l.yielded) (taken (vec_items l.docket.packages.list) l.choice))

@@ -4,10 +4,10 @@ use Rattle.std.proofs.lemmas.Bool.{eq-eqb}
 use Rattle.clearing.specs.Lawful.{view, choices}
 use Rattle.clearing.proofs.ClosedRanges.{ranged-closing}
 use Rattle.clearing.proofs.Judged.{worth_tells}
-use Rattle.search.specs.Search.{standing, Placed, Leads, finished, step, steps}
+use Rattle.search.specs.Search.{standing, Placed, Leads, finished, after_step, after_steps}
 use Rattle.search.proofs.Placings.{Moved, not-finished, step-placed, finished-stays, goes_on, moves_on}
 use Rattle.search.proofs.Leadings.{step-leads}
-use Rattle.search.proofs.steps.run.Goals as goal
+use Rattle.search.proofs.positions.Position.run.Goals as goal
 
 pub loop-preserved : goal.loop-preserved
 loop-preserved g c =
@@ -16,12 +16,12 @@ loop-preserved g c =
     let at = standing c.loop.at in
     let so_far = c.loop.invariant in
     let below : at.settled < choices v = omega (arith, c.choices-all.ensures.count, c.if-at-all.false) in
-    let next = λ (placed : Placed v (standing c.args.from)). sym (c.step-at.ensures.value (so_far.placed placed) below ∙ ap (λ r. step r v at) so_far.same_rule) in
+    let next = λ (placed : Placed v (standing c.args.self)). sym (c.step-at.ensures.value (so_far.placed placed) below ∙ ap (λ r. after_step r v at) so_far.same_rule) in
     record {
       leads_on = λ placed rest count.
-          so_far.leads_on placed (suc rest) (omega arith) ∙ goes_on rule v rest at (not-finished v at below) ∙ ap (steps rule v rest) (next placed);
+          so_far.leads_on placed (suc rest) (omega arith) ∙ goes_on rule v rest at (not-finished v at below) ∙ ap (after_steps rule v rest) (next placed);
       placed = λ placed. subst (Placed v) (next placed) (step-placed rule v at (so_far.placed placed) below);
-      moved = λ placed. subst (λ a. Moved (standing c.args.from) a (c.loop.counter + 1)) (next placed) (moves_on rule v (standing c.args.from) at c.loop.counter (so_far.moved placed));
+      moved = λ placed. subst (λ a. Moved (standing c.args.self) a (c.loop.counter + 1)) (next placed) (moves_on rule v (standing c.args.self) at c.loop.counter (so_far.moved placed));
       leads = λ placed closed first.
           let ranged = ranged-closing v closed in
           subst (Leads v) (next placed)

@@ -6,7 +6,7 @@ use Rattle.std.proofs.lemmas.Iterator.Consumers.{YieldsList-turn, YieldsList-end
 use Rattle.clearing.specs.Choices.{taken}
 use Rattle.clearing.specs.Tallies.{Room, tally_of, added}
 use Rattle.clearing.proofs.Takings.{walk, next-room, next-fits, next-added}
-use Rattle.clearing.proofs.tallies.Tally.of.Goals as goal
+use Rattle.clearing.proofs.tallies.Tally.new.Goals as goal
 
 pub add-requires : goal.add-requires
 add-requires c =

@@ -1,7 +1,7 @@
 -- `choices`: a docket has at most 40 packages.
 use Rattle.std.proofs.Common.{◌≤◌, arith, pow_mono}
 use Rattle.std.proofs.lemmas.Nat.{one_shl}
-use Rattle.search.proofs.steps.choices.Goals as goal
+use Rattle.search.proofs.positions.choices.Goals as goal
 
 pub returns-clause-bound : goal.returns-clause-bound
 returns-clause-bound c =

@@ -1,10 +1,10 @@
 -- `tag`: the kinds are numbered by their tags.
 use Rattle.std.proofs.Common.{◌≡◌, ◌+◌, refl}
 use denote.Enum.Declared.{tag_of}
-use Rattle.offers.specs.contracts.memory.Kind.{the_type}
-use Rattle.offers.specs.declared.memory.Kind.TheVariants as kind
+use Rattle.offers.specs.contracts.kinds.Kind.{the_type}
+use Rattle.offers.specs.declared.kinds.Kind.TheVariants as kind
 use Rattle.offers.specs.Memory.{layout_of}
-use Rattle.offers.proofs.memory.Kind.tag.Goals as goal
+use Rattle.offers.proofs.kinds.Kind.tag.Goals as goal
 
 pub returns : goal.returns
 returns c =

@@ -1,6 +1,6 @@
 -- `record_length`: the kind of each arm is known.
 use Rattle.std.proofs.Common.{refl}
-use Rattle.offers.proofs.memory.Kind.record_length.Goals as goal
+use Rattle.offers.proofs.kinds.Kind.record_length.Goals as goal
 
 pub returns-in-Package : goal.returns-in-Package
 returns-in-Package c = rw c.in-Package.is refl
