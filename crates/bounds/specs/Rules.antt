@@ -5,7 +5,7 @@ use Rattle.std.specs.List.{filter}
 use Rattle.clearing.specs.declared.dockets.PricedPackage.{PricedPackage}
 use Rattle.clearing.specs.declared.dockets.OpenBand.{OpenBand}
 use Rattle.clearing.specs.Choices.{taken, total, supply, cost}
-use Rattle.clearing.specs.Judging.{pairs_kept, exclusions_kept, zones_kept, dates_kept}
+use Rattle.clearing.specs.Judging.{pairs_kept, exclusions_kept, zones_kept, dates_stand}
 use Rattle.clearing.specs.Lawful.{View, income, surplus, filled_sales}
 use Rattle.clearing.specs.Sales.{filled}
 use Rattle.clearing.specs.Tallies.{row}
@@ -99,7 +99,7 @@ tangent v b = Some (tangent_by (multipliers v.bands (fixed v b) (live_ones v b))
 -- shares: none where what is dated of the fixed packages is above its percentage of the most that any choice of the block can sell in
 -- its market
 abbrev pub shares_kept : Answers
-shares_kept v b = if dates_kept v (fixed v b) (filled_sales v (last_of b)) then Some ceiling else None
+shares_kept v b = if dates_stand v b.first (last_of b) then Some ceiling else None
 
 -- joined: none where either of two rules says so, else the smaller cap
 abbrev pub smaller : Option ℤ → Option ℤ → Option ℤ

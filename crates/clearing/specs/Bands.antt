@@ -14,10 +14,11 @@ abbrev pub offered : OpenBand → Numbered Band
 offered b = record { number = b.number; terms = b.terms }
 
 -- a band is served before another of its market if its price is higher, or equal and its number smaller
+abbrev pub ahead_by : Band → Band → (smaller_number : Bool) → Bool
+ahead_by a b smaller_number = (a.market == b.market) && (nat_lt b.price a.price || (a.price == b.price && smaller_number))
+
 abbrev pub comes_ahead : Numbered Band → Numbered Band → Bool
-comes_ahead a b =
-    (a.terms.market == b.terms.market)
-    && (nat_lt b.terms.price a.terms.price || (a.terms.price == b.terms.price && nat_lt a.number b.number))
+comes_ahead a b = ahead_by a.terms b.terms (nat_lt a.number b.number)
 
 -- what the bands that are served before a band would take
 abbrev pub ahead_of : List (Numbered Band) → Numbered Band → ℕ

@@ -1,5 +1,5 @@
 -- What stands in the docket of a closing, and what a closing makes of the entries and a price rule's meaning. Assumes nothing.
-use Rattle.std.specs.Prelude.{◌≡◌, ℕ, ◌+◌, ◌≤◌, true, ◌↔◌, List, [], ◌∷◌, map, Contains, ℤ, Ok, Err, Result, IsOk}
+use Rattle.std.specs.Prelude.{◌≡◌, ℕ, ◌+◌, ◌≤◌, true, ◌↔◌, List, [], ◌∷◌, map, Contains, ℤ, Ok, Err, Result, IsOk, ◌-◌, pos, slice_index_or}
 use Rattle.offers.specs.declared.records.Package.{Package}
 use Rattle.offers.specs.declared.records.Band.{Band}
 use Rattle.offers.specs.declared.records.Pair.{Pair}
@@ -75,6 +75,17 @@ priced_as p (Err fault) rest = Err (no_price p.number fault)
 abbrev pub priced : Meaning → List (Numbered Package) → Result (List PricedPackage) Refusal
 priced meaning [] = Ok []
 priced meaning (p ∷ ps) = priced_as p (meaning p.terms) (priced meaning ps)
+
+-- what pricing the open packages of a register comes to: the price of each at its place, or the refusal of the first without one
+abbrev pub PricesOpen : Meaning → List (Entry Package) → Result (List ℤ) Refusal → Type 0
+PricesOpen meaning es (Ok prices) =
+    (k : ℕ) (p : Package) → slice_index_or es k Vacant ≡ Open p → meaning p ≡ Ok (slice_index_or prices k (pos 0))
+PricesOpen meaning es (Err refusal) = priced meaning (open_from 1 es) ≡ Err refusal
+
+-- each open package with the price at its place
+abbrev pub packages_at : List ℤ → List (Entry Package) → List PricedPackage
+packages_at prices es =
+    map (λ p. record { number = p.number; price = slice_index_or prices (p.number - 1) (pos 0); terms = p.terms }) (open_from 1 es)
 
 abbrev pub docket_with : Entries → List PricedPackage → View
 docket_with all ps = record {

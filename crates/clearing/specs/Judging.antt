@@ -39,6 +39,10 @@ dates_kept v T sales =
     list_all (λ m. share_kept v T sales 1 1 m && share_kept v T sales 2 2 m) (1 ∷ 2 ∷ 3 ∷ [])
     && (share_kept v T sales 3 1 5 && share_kept v T sales 4 2 5)
 
+-- what is dated of the packages that one choice takes keeps the percentages of what another's filled sales sell
+abbrev pub dates_stand : View → ℕ → ℕ → Bool
+dates_stand v first last = dates_kept v (taken v.packages first) (filled_sales v last)
+
 -- Filled sales are within quantities and supply whatever is taken, so this is all that a choice with them has to keep.
 abbrev pub passes : View → List PricedPackage → List ℕ → Bool
 passes v T sales =

@@ -1,5 +1,5 @@
 -- The rules of lawfulness as the code tests them, over a tally's rows. Assumes nothing.
-use Rattle.std.specs.Prelude.{◌≡◌, ℕ, ◌-◌, ◌*◌, ◌≤◌, Bool, true, false, List, slice_index, slice_index_or}
+use Rattle.std.specs.Prelude.{◌≡◌, ℕ, ◌-◌, ◌*◌, ◌≤◌, Bool, true, false, List, slice_index, slice_index_or, ◌==◌, if◌then◌else◌}
 use Rattle.std.specs.List.{AllByRecursion as Every}
 use Rattle.offers.specs.declared.records.Pair.{Pair}
 use Rattle.offers.specs.declared.records.Exclusion.{Exclusion}
@@ -19,6 +19,12 @@ PairsKept pairs taken within = Every (λ p. In taken p.dependent → In within p
 abbrev pub ExclusionsKept : List Exclusion → List Bool → Type 0
 ExclusionsKept exclusions taken =
     Every (λ e. Every (λ f. e.group ≡ f.group → In taken e.member → In taken f.member → e.member ≡ f.member) exclusions) exclusions
+
+-- what counts against a limit of a zone: nameplates in it or energy from it, and nothing against a percentage
+abbrev pub zone_load : Limit → Tally → ℕ
+zone_load l t =
+    if l.sort == 1 then slice_index t.nameplate (l.zone - 1)
+    else if l.sort == 2 then slice_index t.export (l.zone - 1) else 0
 
 -- zone z stands at place z - 1 of a row
 abbrev pub ZonesKept : List Limit → List ℕ → List ℕ → Type 0

@@ -2,10 +2,8 @@
 ghost use Rattle.std.specs.List.{list_all};
 ghost use Rattle.std.specs.Prelude.{◌≡◌, ℕ, ◌+◌, ◌-◌, ◌≤◌, true, ◌&&◌, ◌||◌, map, pos, IfOk, IfErr, Ok, Err, MatchResult, ◌==◌, nat_lt, slice_index_or};
 ghost use Rattle.offers.specs.Refusals.{Carries};
-ghost use Rattle.offers.specs.declared.records.Package.{Package as Rated};
-ghost use Rattle.offers.specs.declared.registers.Entry.TheVariants.{Vacant, Open};
-ghost use Rattle.clearing.specs.Bands.{ahead_of};
-ghost use Rattle.clearing.specs.Closing.{priced, no_price, open_from, open_records, open_bands};
+ghost use Rattle.clearing.specs.Bands.{ahead_of, ahead_by};
+ghost use Rattle.clearing.specs.Closing.{PricesOpen, packages_at, no_price, open_from, open_records, open_bands};
 ghost use Rattle.clearing.specs.Ranges.{fits, price_fits, package_fits, band_fits};
 
 use crate::bounded::BoundedVec;
@@ -19,7 +17,7 @@ pub(crate) fn price_all<P: PriceRule>(
     rule: &mut P,
 ) -> Result<[i64; 40], Refusal>
     ensures fit { IfOk result (λ ps. list_all price_fits ps ≡ true) }
-    ensures answer { MatchResult result (λ ps. (k : ℕ) (p : Rated) → slice_index_or ledger.now.entries k Vacant ≡ Open p → P.PriceRule.meaning rule.old p ≡ Ok (slice_index_or ps k (pos 0))) (λ e. priced (P.PriceRule.meaning rule.old) (open_from 1 ledger.now.entries) ≡ Err e) }
+    ensures answer { PricesOpen (P.PriceRule.meaning rule.old) ledger.now.entries result }
     ensures same_rule { P.PriceRule.meaning rule.new ≡ P.PriceRule.meaning rule.old }
     ensures carries { IfErr result Carries }
 {
@@ -56,7 +54,7 @@ pub(crate) fn copy_packages(
 )
     requires prices_fit { list_all price_fits prices.now ≡ true }
     ensures fit { list_all package_fits into.new.list.items ≡ true }
-    ensures items { into.new.list.items ≡ map (λ p. record { number = p.number; price = slice_index_or prices.now (p.number - 1) (pos 0); terms = p.terms }) (open_from 1 ledger.now.entries) }
+    ensures items { into.new.list.items ≡ packages_at prices.now ledger.now.entries }
 {
     into.clear();
     for (i, entry) in ledger.entries.iter().enumerate() {
@@ -106,7 +104,7 @@ fn ahead_of(ledger: &Ledger<Band, 64>, at: usize, band: &Band) -> u64
 // Whether a band is served before another: a higher price in its market, or an equal price and a smaller number, which the records do
 // not have.
 fn comes_ahead(other: &Band, band: &Band, smaller_number: bool) -> bool
-    ensures { result ≡ (other.now.market == band.now.market && (nat_lt band.now.price other.now.price || (other.now.price == band.now.price && smaller_number))) }
+    ensures { result ≡ ahead_by other.now band.now smaller_number }
 {
     other.market == band.market
         && (other.price > band.price || other.price == band.price && smaller_number)

@@ -2,10 +2,9 @@
 ghost use Rattle.std.specs.List.{list_all};
 ghost use Rattle.std.specs.Prelude.{◌≡◌, ℕ, ◌-◌, ◌*◌, ◌≤◌, true, List, if◌then◌else◌, nat_eq, nat_le, slice_index, IsTrue, ◌↔◌};
 ghost use Rattle.offers.specs.Tables.{limit_layout};
-ghost use Rattle.clearing.specs.Choices.{taken};
 ghost use Rattle.clearing.specs.Filling.{BestFilled};
-ghost use Rattle.clearing.specs.Judging.{dates_kept, worth_of};
-ghost use Rattle.clearing.specs.Kept.{PairsKept, ExclusionsKept, ZonesKept, DatesKept};
+ghost use Rattle.clearing.specs.Judging.{dates_stand, worth_of};
+ghost use Rattle.clearing.specs.Kept.{PairsKept, ExclusionsKept, ZonesKept, DatesKept, zone_load};
 ghost use Rattle.clearing.specs.Lawful.{view, Lawful, Worth, filled_sales, percentage};
 ghost use Rattle.clearing.specs.Tallies.{row};
 ghost use Rattle.clearing.specs.Ranges.{fits};
@@ -15,24 +14,24 @@ use crate::sales::{Sales, sell};
 use crate::tallies::{CERTIFICATES, ENERGY, Tally};
 use offers::{Limit, Sort};
 
-/// Whether each taken package that needs another has it among those that `within` has.
-pub fn pairs_kept(docket: &Docket, taken: &Tally, within: &Tally) -> bool
-    ensures { IsTrue result ↔ (PairsKept docket.now.pairs.list.items taken.now.takes within.now.takes) }
+/// Whether each taken package that needs another has it among the possible ones.
+pub fn pairs_kept(docket: &Docket, tally: &Tally, possible: &Tally) -> bool
+    ensures { IsTrue result ↔ (PairsKept docket.now.pairs.list.items tally.now.takes possible.now.takes) }
 {
     docket.pairs.list.iter().all(|pair| {
-        !taken.takes[pair.dependent as usize] || within.takes[pair.needed as usize]
+        !tally.takes[pair.dependent as usize] || possible.takes[pair.needed as usize]
     })
 }
 
 /// Whether no two different taken packages are in one group. A loop, since each turn looks at what the turns before it saw.
-pub fn exclusions_kept(docket: &Docket, taken: &Tally) -> bool
-    ensures { IsTrue result ↔ (ExclusionsKept docket.now.exclusions.list.items taken.now.takes) }
+pub fn exclusions_kept(docket: &Docket, tally: &Tally) -> bool
+    ensures { IsTrue result ↔ (ExclusionsKept docket.now.exclusions.list.items tally.now.takes) }
 {
     let mut first = [None; 16];
     for exclusion in docket.exclusions.list.iter() {
         let group = exclusion.group as usize - 1;
         let member = exclusion.member;
-        if taken.takes[member as usize] {
+        if tally.takes[member as usize] {
             match first[group] {
                 Some(other) if other != member => return false,
                 _ => first[group] = Some(member),
@@ -43,25 +42,25 @@ pub fn exclusions_kept(docket: &Docket, taken: &Tally) -> bool
 }
 
 /// Whether the taken packages without connection priority keep the limits of their zones.
-pub fn zones_kept(docket: &Docket, taken: &Tally) -> bool
-    ensures { IsTrue result ↔ (ZonesKept docket.now.limits.list.items taken.now.nameplate taken.now.export) }
+pub fn zones_kept(docket: &Docket, tally: &Tally) -> bool
+    ensures { IsTrue result ↔ (ZonesKept docket.now.limits.list.items tally.now.nameplate tally.now.export) }
 {
     docket
         .limits
         .list
         .iter()
-        .all(|limit| zone_load(limit, taken) <= limit.amount as u64)
+        .all(|limit| zone_load(limit, tally) <= limit.amount as u64)
 }
 
 // What counts against a limit of a zone; nothing counts against a percentage here.
-fn zone_load(limit: &Limit, taken: &Tally) -> u64
+fn zone_load(limit: &Limit, tally: &Tally) -> u64
     requires { fits limit_layout limit.now ≡ true }
-    ensures { result ≡ (if nat_eq limit.now.sort 1 then slice_index taken.now.nameplate (limit.now.zone - 1) else (if nat_eq limit.now.sort 2 then slice_index taken.now.export (limit.now.zone - 1) else 0)) }
+    ensures { result ≡ zone_load limit.now tally.now }
 {
     if limit.is_on(Sort::Interconnection) {
-        taken.nameplate[limit.zone as usize - 1]
+        tally.nameplate[limit.zone as usize - 1]
     } else if limit.is_on(Sort::Export) {
-        taken.export[limit.zone as usize - 1]
+        tally.export[limit.zone as usize - 1]
     } else {
         0
     }
@@ -96,23 +95,23 @@ fn share_kept(percent: u64, dated: &[u64; 5], sold: &[u64; 5], market: usize) ->
 }
 
 // Whether dated packages keep their percentages, in each market of power and in that of certificates.
-fn dates_kept(docket: &Docket, taken: &Tally, sales: &Sales) -> bool
-    requires before { list_all (λ n. nat_le n 400000000) taken.now.before ≡ true }
-    requires after { list_all (λ n. nat_le n 400000000) taken.now.after ≡ true }
+fn dates_kept(docket: &Docket, tally: &Tally, sales: &Sales) -> bool
+    requires before { list_all (λ n. nat_le n 400000000) tally.now.before ≡ true }
+    requires after { list_all (λ n. nat_le n 400000000) tally.now.after ≡ true }
     requires sold { list_all (λ n. nat_le n 6400000000) sales.now.sold ≡ true }
-    ensures { IsTrue result ↔ (DatesKept docket.now.limits.list.items taken.now sales.now.sold) }
+    ensures { IsTrue result ↔ (DatesKept docket.now.limits.list.items tally.now sales.now.sold) }
 {
     let least = percentages(docket);
     (1..ENERGY).all(|market| {
-        share_kept(least[0], &taken.before, &sales.sold, market)
-            && share_kept(least[1], &taken.after, &sales.sold, market)
-    }) && share_kept(least[2], &taken.before, &sales.sold, CERTIFICATES)
-        && share_kept(least[3], &taken.after, &sales.sold, CERTIFICATES)
+        share_kept(least[0], &tally.before, &sales.sold, market)
+            && share_kept(least[1], &tally.after, &sales.sold, market)
+    }) && share_kept(least[2], &tally.before, &sales.sold, CERTIFICATES)
+        && share_kept(least[3], &tally.after, &sales.sold, CERTIFICATES)
 }
 
 /// Whether what is dated of the packages that one choice takes keeps the percentages of what another choice's filled sales sell.
 pub fn dates_stand(docket: &Docket, first: u64, last: u64) -> bool
-    ensures { result ≡ dates_kept (view docket.now) (taken docket.now.packages.list.items first) (filled_sales (view docket.now) last) }
+    ensures { result ≡ dates_stand (view docket.now) first last }
 {
     let dated = Tally::new(docket, first);
     let selling = Tally::new(docket, last);
@@ -127,14 +126,14 @@ pub fn worth(docket: &Docket, choice: u64) -> Option<i64>
     ensures worth { Worth (view docket.now) choice result }
     ensures best_filled { BestFilled (view docket.now) choice }
 {
-    let taken = Tally::new(docket, choice);
-    let sales = sell(docket, &taken.supply);
-    if pairs_kept(docket, &taken, &taken)
-        && exclusions_kept(docket, &taken)
-        && zones_kept(docket, &taken)
-        && dates_kept(docket, &taken, &sales)
+    let tally = Tally::new(docket, choice);
+    let sales = sell(docket, &tally.supply);
+    if pairs_kept(docket, &tally, &tally)
+        && exclusions_kept(docket, &tally)
+        && zones_kept(docket, &tally)
+        && dates_kept(docket, &tally, &sales)
     {
-        Some(sales.income as i64 - taken.cost)
+        Some(sales.income as i64 - tally.cost)
     } else {
         None
     }

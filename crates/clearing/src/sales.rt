@@ -18,8 +18,8 @@ pub(crate) fn sale(supply: &[u64; 5], band: &OpenBand) -> u64
     requires { band_fits band.now ≡ true }
     ensures { result ≡ filled supply.now band.now }
 {
-    let left = supply[band.terms.market as usize - 1].saturating_sub(band.ahead);
-    left.min(band.terms.quantity as u64)
+    let rest = supply[band.terms.market as usize - 1].saturating_sub(band.ahead);
+    rest.min(band.terms.quantity as u64)
 }
 
 /// What the band at a place of the docket is sold, 0 past the last.

@@ -1,6 +1,6 @@
 pub mod Parting
 pub mod Digits
-pub mod Zones
+pub mod ZoneTexts
 pub mod Journaling
 pub mod Meanings
 pub mod HexDigits

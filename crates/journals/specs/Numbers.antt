@@ -15,6 +15,10 @@ abbrev pub value_on : ℕ → List ℕ → ℕ
 value_on n [] = n
 value_on n (c ∷ cs) = value_on (10 * n + (c - 48)) cs
 
+-- a digit more behind a number that eight bytes hold, where they hold it still
+abbrev pub digit_more : ℕ → ℕ → Option ℕ
+digit_more n c = if nat_lt (10 * n + (c - 48)) (2 ^ 64) then Some (10 * n + (c - 48)) else None
+
 -- the number that a word is
 abbrev pub number_in : List ℕ → Option ℕ
 number_in word = if is_number word then Some (value_on 0 word) else None

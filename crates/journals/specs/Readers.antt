@@ -1,4 +1,5 @@
 -- How words are read: from the left, the first that is wrong deciding. Assumes nothing.
+use Rattle.std.specs.Borrow.{Bor}
 use Rattle.std.specs.Prelude.{◌≡◌, ℕ, ℤ, List, [], ◌∷◌, Some, None, Option, Ok, Err, Result}
 use Rattle.journals.specs.declared.wrongs.ReadError.{ReadError}
 use Rattle.journals.specs.declared.wrongs.ReadError.TheVariants as error
@@ -17,6 +18,11 @@ Reading X = Result (X × List (List ℕ)) Wrong
 -- the words that are left
 abbrev pub unread : Words → List (List ℕ)
 unread words = words_in words.rest.now
+
+-- the next of the words, where there is one, and the words after it
+abbrev pub NextWord : Words → Option (Bor (List ℕ)) → Words → Type 0
+NextWord before None after = (unread before ≡ []) × (unread after ≡ [])
+NextWord before (Some word) after = unread before ≡ word.now ∷ unread after
 
 -- what a function answered, seen by view, and the words that it left are what the definition says
 abbrev pub Gives : {X Y : Type 0} → (X → Y) → Result X Wrong → Words → Reading Y → Type 0

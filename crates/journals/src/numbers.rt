@@ -2,7 +2,7 @@
 ghost use Rattle.std.specs.Prelude.{◌≡◌, ◌+◌, ◌-◌, ◌*◌, true, Ok, ◌^◌, nat_lt, if◌then◌else◌, Some, None};
 ghost use Rattle.std.specs.Char.{is_ascii_digit};
 ghost use Rattle.std.specs.List.{list_all};
-ghost use Rattle.journals.specs.Numbers.{number_in, value_on, sized, signed_in};
+ghost use Rattle.journals.specs.Numbers.{digit_more, number_in, value_on, sized, signed_in};
 
 use crate::wrongs::Wrong;
 
@@ -16,7 +16,7 @@ fn all_digits(word: &[u8]) -> bool
 // A digit more behind a number.
 fn followed(number: u64, digit: u8) -> Option<u64>
     requires { is_ascii_digit digit ≡ true }
-    ensures { result ≡ (if nat_lt (10 * number + (digit - 48)) (2 ^ 64) then Some (10 * number + (digit - 48)) else None) }
+    ensures { result ≡ digit_more number digit }
 {
     number.checked_mul(10)?.checked_add((digit - b'0') as u64)
 }

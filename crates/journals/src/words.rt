@@ -1,6 +1,6 @@
 //! The words of a line, read from the left.
-ghost use Rattle.std.specs.Prelude.{◌≡◌, ◌∷◌, [], MatchOption, not};
-ghost use Rattle.journals.specs.Readers.{unread, Gives, word_at, number_at, optional_at, signed_at, end_at};
+ghost use Rattle.std.specs.Prelude.{◌≡◌, ◌∷◌, [], not};
+ghost use Rattle.journals.specs.Readers.{unread, NextWord, Gives, word_at, number_at, optional_at, signed_at, end_at};
 ghost use Rattle.std.specs.List.{position};
 ghost use Rattle.journals.specs.Words.{words_in, is_blank};
 
@@ -43,7 +43,7 @@ impl<'a> Words<'a> {
     /// The next word, where there is one.
     #[tactic(auto, using(crate::proofs::Parting::no_word, crate::proofs::Parting::first_word))]
     pub fn next(&mut self) -> Option<&'a [u8]>
-        ensures { MatchOption result ((unread self.old ≡ []) × (unread self.new ≡ [])) (λ word. unread self.old ≡ word.now ∷ unread self.new) }
+        ensures { NextWord self.old result self.new }
     {
         let start = first_other(self.rest)?;
         let rest = &self.rest[start..];

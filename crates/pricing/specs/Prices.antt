@@ -1,6 +1,8 @@
 -- Prices in pesos, and what each price rule means. Assumes nothing.
 use Rattle.std.specs.Prelude.{ℕ, suc, ◌+◌, ◌-◌, ◌*◌, ◌/◌, ◌%◌, ◌&&◌, List, ℤ, pos, negsuc, ◌+ℤ◌, ◌*ℤ◌, neg_ℤ, ◌≤ℤ◌, Ok, Err, Result, ◌==◌, int_le, slice_index_or, if◌then◌else◌}
 use Rattle.offers.specs.declared.records.Package.{Package}
+use Rattle.pricing.specs.declared.numbers.Rates.{Rates}
+use Rattle.pricing.specs.declared.numbers.ZoneNumbers.{ZoneNumbers}
 use Rattle.pricing.specs.declared.rules.Fault.{Fault}
 
 -- a price rule's meaning: one price or fault for each package, by its terms
@@ -45,6 +47,10 @@ abbrev pub place_price : List ℤ → ℕ → Result ℤ Fault → Package → R
 place_price numbers depth below p =
     upon below depth (λ price. price +ℤ (slice_index_or numbers (p.price_zone - 1) (pos 0) *ℤ pos p.energy))
 
+-- on what is below it
+abbrev pub place_on : ZoneNumbers → ℕ → Meaning → Meaning
+place_on zones level below p = place_price zones.numbers (above level) (below p) p
+
 -- a hundred-millionth, rounded up to the smallest whole number not below it: a negative one goes toward zero
 abbrev pub hundred_millionth : ℤ → ℤ
 hundred_millionth (pos n) = pos ((n + 99999999) / 100000000)
@@ -55,6 +61,10 @@ abbrev pub currency_price : ℕ → ℕ → ℕ → Result ℤ Fault → Package
 currency_price preference expectation depth below p =
     upon below depth (λ price.
     if p.dollar == 1 then hundred_millionth (price *ℤ pos (preference * expectation)) else price)
+
+-- on what is below it
+abbrev pub currency_on : Rates → ℕ → Meaning → Meaning
+currency_on rates level below p = currency_price rates.preference rates.expectation (above level) (below p) p
 
 -- the round's own stack of price rules, with its rates and the numbers of its zones: currency on place on filed
 abbrev pub stack_price : ℕ → ℕ → List ℤ → Package → Result ℤ Fault

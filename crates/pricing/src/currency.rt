@@ -1,6 +1,6 @@
 //! The currency rule: prices in dollars are weighed against those in pesos.
 ghost use Rattle.std.specs.Prelude.{◌≡◌, ℤ, pos, ◌+ℤ◌, ◌*ℤ◌, ◌≤ℤ◌, ◌<ℤ◌};
-ghost use Rattle.pricing.specs.Prices.{currency_price, hundred_millionth, above};
+ghost use Rattle.pricing.specs.Prices.{currency_on, hundred_millionth, above};
 ghost use Rattle.std.proofs.Common.{rules};
 
 use crate::numbers::Rates;
@@ -15,7 +15,7 @@ pub struct Currency<P> {
 }
 
 impl<P: PriceRule> PriceRule for Currency<P> {
-    ghost meaning = { λ s p. currency_price s.rates.preference s.rates.expectation (above (P.PriceRule.level s.below)) (P.PriceRule.meaning s.below p) p };
+    ghost meaning = { λ s. currency_on s.rates (P.PriceRule.level s.below) (P.PriceRule.meaning s.below) };
 
     ghost level = { λ s. above (P.PriceRule.level s.below) };
 

@@ -1,5 +1,5 @@
 //! The place rule: energy costs more or less by price zone.
-ghost use Rattle.pricing.specs.Prices.{place_price, above};
+ghost use Rattle.pricing.specs.Prices.{place_on, above};
 ghost use Rattle.std.proofs.Common.{rules};
 
 use crate::numbers::ZoneNumbers;
@@ -14,7 +14,7 @@ pub struct Place<P> {
 }
 
 impl<P: PriceRule> PriceRule for Place<P> {
-    ghost meaning = { λ s p. place_price s.numbers.numbers (above (P.PriceRule.level s.below)) (P.PriceRule.meaning s.below p) p };
+    ghost meaning = { λ s. place_on s.numbers (P.PriceRule.level s.below) (P.PriceRule.meaning s.below) };
 
     ghost level = { λ s. above (P.PriceRule.level s.below) };
 

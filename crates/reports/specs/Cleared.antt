@@ -1,5 +1,5 @@
 -- What a sheet is cleared to. Assumes nothing.
-use Rattle.std.specs.Prelude.{◌≡◌, ℕ, List, [], ◌∷◌, Some, None, Option, Ok}
+use Rattle.std.specs.Prelude.{◌≡◌, ℕ, List, [], ◌∷◌, Some, None, Option, Ok, Err, Result}
 use Rattle.offers.specs.declared.refusals.Refusal.{Refusal}
 use Rattle.pricing.specs.Prices.{filed_price}
 use Rattle.bounds.specs.Blocks.{Answers}
@@ -31,3 +31,8 @@ pub record Cleared (rule : Answers) (before : Model) (sheet : List ℕ) (round :
 -- or the first of the two that is refused says why
 abbrev pub NotCleared : Model → List ℕ → Refusal → Type 0
 NotCleared before sheet why = first_refusal (answers_from before (sheet_calls sheet)) ≡ Some why
+
+-- what clearing a sheet comes to: a round that is awarded, or a refusal
+abbrev pub ClearsTo : Answers → Model → List ℕ → Result AwardedRound Refusal → Type 0
+ClearsTo rule before sheet (Ok round) = Cleared rule before sheet round
+ClearsTo rule before sheet (Err why) = NotCleared before sheet why

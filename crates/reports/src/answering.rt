@@ -1,8 +1,8 @@
 //! A sheet's whole way: its bytes are read, its round is cleared, and the text of its award or its refusal is written.
-ghost use Rattle.std.specs.Prelude.{◌≡◌, ◌≤◌, IfOk, IfSome, MatchResult, take, vec_len};
+ghost use Rattle.std.specs.Prelude.{◌≡◌, ◌≤◌, IfOk, IfSome, take, vec_len};
 ghost use Rattle.rounds.specs.Views.{of_open};
 ghost use Rattle.reports.specs.Answering.{Answered};
-ghost use Rattle.reports.specs.Cleared.{Cleared, NotCleared};
+ghost use Rattle.reports.specs.Cleared.{ClearsTo};
 ghost use Rattle.reports.specs.Searching.{searching};
 
 use crate::report::{RefusedSheet, Report};
@@ -64,7 +64,7 @@ fn clear<P: Progress>(
     mut rules: Rules,
     progress: &mut P,
 ) -> Result<AwardedRound, Refusal>
-    ensures { MatchResult result (Cleared (searching rules) (of_open round) sheet.now) (NotCleared (of_open round) sheet.now) }
+    ensures { ClearsTo (searching rules) (of_open round) sheet.now result }
 {
     round.catch_up(sheet)?;
     match round.close(&mut Filed) {

@@ -8,8 +8,8 @@ use Rattle.rounds.specs.declared.requests.Request.{Request}
 use Rattle.rounds.specs.declared.requests.Request.TheVariants as request
 use Rattle.rounds.specs.declared.requests.Reply.{Reply}
 use Rattle.rounds.specs.declared.requests.Reply.TheVariants as reply
-use Rattle.rounds.specs.Model.{Call, File, Withdraw, CatchUp, Close, Search, Reopen, ReadAward, WriteSheet, Answer, Done, Found, Reopened, Awarded, Written, NotTaken, Model}
-use Rattle.rounds.specs.Views.{of_open, of_closed, of_awarded}
+use Rattle.rounds.specs.Model.{Call, File, Withdraw, CatchUp, Close, Search, Reopen, ReadAward, WriteSheet, Answer, Done, Found, Reopened, Awarded, Written, NotTaken, Model, Stepped}
+use Rattle.rounds.specs.Views.{of_open, of_closed, of_awarded, gave}
 
 abbrev pub of_round : Round → Model
 of_round (round.Open r) = of_open r
@@ -34,3 +34,7 @@ answer_of reply.Reopened = Reopened
 answer_of (reply.Awarded r lent) = Awarded r (vec_items lent)
 answer_of (reply.Written r buffer) = Written r (vec_items buffer)
 answer_of reply.NotTaken = NotTaken
+
+-- what a request leaves, and what it is answered
+abbrev pub gave_reply : Round × Reply → Stepped
+gave_reply r = gave (of_round r.0) (answer_of r.1)

@@ -1,5 +1,5 @@
 -- What the rounds that callers hold are as plain rounds, and what calls give back. Assumes nothing.
-use Rattle.std.specs.Prelude.{◌<◌, ◌≤◌, ◌≡◌, ℕ, List, ◌∷◌, [], ◌++◌, replicate, Ok, Err, Result}
+use Rattle.std.specs.Prelude.{◌<◌, ◌≤◌, ◌≡◌, ℕ, ℤ, List, ◌∷◌, [], ◌++◌, replicate, Ok, Err, Result}
 use Rattle.std.specs.List.{AllByRecursion as Every}
 use Rattle.offers.specs.declared.refusals.Refusal.{Refusal}
 use Rattle.offers.specs.Memory.{entries_in}
@@ -12,7 +12,7 @@ use Rattle.rounds.specs.declared.closed_round.ClosedRound.{ClosedRound}
 use Rattle.rounds.specs.declared.awarded_round.AwardedRound.{AwardedRound}
 use Rattle.rounds.specs.declared.closed_round.Searched.{Searched}
 use Rattle.rounds.specs.declared.closed_round.Searched.TheVariants as searched
-use Rattle.rounds.specs.Model.{step, Call, Search, Answer, State, IsOpen, IsClosed, IsAwarded, Model, model, Stepped, Done, after_from, after}
+use Rattle.rounds.specs.Model.{step, Call, Search, Answer, State, IsOpen, IsClosed, IsAwarded, Model, model, Stepped, Done, Found, after_from, after}
 use Rattle.rounds.specs.Promises.{LawfulCall, Promise, Keeps}
 
 abbrev pub of_open : OpenRound → Model
@@ -42,6 +42,10 @@ gave work_left answer = record { after = work_left; answer = answer }
 abbrev pub gave_closing : Result ClosedRound (OpenRound × Refusal) → Stepped
 gave_closing (Ok r) = gave (of_closed r) (Done (Ok tt))
 gave_closing (Err e) = gave (of_open e.0) (Done (Err e.1))
+
+-- a search gives a round that is closed still or awarded, and what it found
+abbrev pub gave_search : Searched × Result (ℕ × ℤ) Refusal → Stepped
+gave_search found = gave (of_searched found.0) (Found found.1)
 
 -- What one call more adds to a run: the plain round comes to the same, and the promise holds of the round.
 pub record OneMore (calls : List Call) (call : Call) (s : Stepped) : Type 0 where

@@ -28,8 +28,8 @@ pub enum Searched {
 }
 
 impl ClosedRound {
-    ghost use Rattle.rounds.specs.Model.{Search, Reopen, WriteSheet, Found, Reopened, Written, step};
-    ghost use Rattle.rounds.specs.Views.{of_open, of_closed, of_searched, gave, Serves, Falls};
+    ghost use Rattle.rounds.specs.Model.{Search, Reopen, WriteSheet, Reopened, Written, step};
+    ghost use Rattle.rounds.specs.Views.{of_open, of_closed, gave, gave_search, Serves, Falls};
 
     /// Makes so many steps of the search, 1 to 1,000,000, or fewer if it finishes: choices settled, and the leader's surplus in pesos.
     pub fn search<B: BoundingRule>(
@@ -37,7 +37,7 @@ impl ClosedRound {
         rule: &mut B,
         steps: u32,
     ) -> (Searched, Result<(u64, i64), Refusal>)
-        ensures served { Serves (of_closed self) (Search (B.BoundingRule.answers rule.old) steps) (gave (of_searched result.0) (Found result.1)) }
+        ensures served { Serves (of_closed self) (Search (B.BoundingRule.answers rule.old) steps) (gave_search result) }
         ensures same_rule { B.BoundingRule.answers rule.new ≡ B.BoundingRule.answers rule.old }
         ensures falls { 1 ≤ steps → steps ≤ 1000000 → Falls result.0 self.at }
     {

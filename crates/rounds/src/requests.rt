@@ -1,8 +1,8 @@
 //! Requests to a round in whatever state.
 ghost use Rattle.std.specs.Prelude.{◌≡◌};
 ghost use Rattle.rounds.specs.Model.{step};
-ghost use Rattle.rounds.specs.Requests.{of_round, call_of, answer_of};
-ghost use Rattle.rounds.specs.Views.{of_open, of_closed, of_awarded, gave, Serves};
+ghost use Rattle.rounds.specs.Requests.{of_round, call_of, gave_reply};
+ghost use Rattle.rounds.specs.Views.{of_open, of_closed, of_awarded, Serves};
 
 use crate::awarded_round::{Award, AwardedRound};
 use crate::closed_round::{ClosedRound, Searched};
@@ -48,7 +48,7 @@ pub fn serve<P: PriceRule + Drop, B: BoundingRule + Drop>(
     round: Round,
     request: Request<P, B>,
 ) -> (Round, Reply)
-    ensures { Serves (of_round round) (call_of P.PriceRule.meaning B.BoundingRule.answers request) (gave (of_round result.0) (answer_of result.1)) }
+    ensures { Serves (of_round round) (call_of P.PriceRule.meaning B.BoundingRule.answers request) (gave_reply result) }
 {
     match round {
         Round::Open(open) => serve_open(open, request),
@@ -62,7 +62,7 @@ fn serve_open<P: PriceRule + Drop, B: BoundingRule + Drop>(
     mut round: OpenRound,
     request: Request<P, B>,
 ) -> (Round, Reply)
-    ensures { gave (of_round result.0) (answer_of result.1) ≡ step (of_open round) (call_of P.PriceRule.meaning B.BoundingRule.answers request) }
+    ensures { gave_reply result ≡ step (of_open round) (call_of P.PriceRule.meaning B.BoundingRule.answers request) }
 {
     match request {
         Request::File(number, offer) => {
@@ -94,7 +94,7 @@ fn serve_closed<P: PriceRule + Drop, B: BoundingRule + Drop>(
     round: ClosedRound,
     request: Request<P, B>,
 ) -> (Round, Reply)
-    ensures { gave (of_round result.0) (answer_of result.1) ≡ step (of_closed round) (call_of P.PriceRule.meaning B.BoundingRule.answers request) }
+    ensures { gave_reply result ≡ step (of_closed round) (call_of P.PriceRule.meaning B.BoundingRule.answers request) }
 {
     match request {
         Request::Search(mut rule, steps) => {
@@ -119,7 +119,7 @@ fn serve_awarded<P: PriceRule + Drop, B: BoundingRule + Drop>(
     round: AwardedRound,
     request: Request<P, B>,
 ) -> (Round, Reply)
-    ensures { gave (of_round result.0) (answer_of result.1) ≡ step (of_awarded round) (call_of P.PriceRule.meaning B.BoundingRule.answers request) }
+    ensures { gave_reply result ≡ step (of_awarded round) (call_of P.PriceRule.meaning B.BoundingRule.answers request) }
 {
     match request {
         Request::ReadAward(mut row) => {

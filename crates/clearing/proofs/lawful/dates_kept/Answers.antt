@@ -10,7 +10,7 @@ use Rattle.clearing.proofs.lawful.dates_kept.Goals.{then-all, else-all}
 
 pub returns-then-share_kept : goal.returns-then-share_kept
 returns-then-share_kept c =
-    let t = c.args.taken.now in
+    let t = c.args.tally.now in
     let sold = c.args.sales.now.sold in
     let least = c.percentages-least.result in
     let power : c.all.result ≡ list_all (power_shares t sold least) (1 ∷ 2 ∷ 3 ∷ []) =
@@ -23,7 +23,7 @@ returns-then-share_kept c =
 
 pub returns-else-share_kept : goal.returns-else-share_kept
 returns-else-share_kept c =
-    let t = c.args.taken.now in
+    let t = c.args.tally.now in
     let sold = c.args.sales.now.sold in
     let least = c.percentages-least.result in
     let power : c.all.result ≡ list_all (power_shares t sold least) (1 ∷ 2 ∷ 3 ∷ []) =

@@ -5,23 +5,23 @@ use Rattle.clearing.proofs.Held.{no_exclusion}
 use Rattle.clearing.proofs.Exclusions.{one_member, firsts_passed, firsts_taken, firsts_differ, firsts_all}
 use Rattle.clearing.proofs.Tested.{decided_true, decided_false}
 use Rattle.clearing.proofs.lawful.exclusions_kept.Goals as goal
-use Rattle.clearing.proofs.lawful.exclusions_kept.Goals.{then-taken-member+in_default, in_default-via-in-Some+else-other-member, in_default-via-in_default, else-taken-member}
+use Rattle.clearing.proofs.lawful.exclusions_kept.Goals.{then-tally-member+in_default, in_default-via-in-Some+else-other-member, in_default-via-in_default, else-tally-member}
 
 pub loop-exclusion-preserved : goal.loop-exclusion-preserved
 loop-exclusion-preserved c =
     let xs = c.deref-exclusion-items.result.now in
     let here = c.loop-exclusion in
-    elim c.if-taken-member.branch [
-      | then-taken-member+in_default w ↦
+    elim c.if-tally-member.branch [
+      | then-tally-member+in_default w ↦
           let x = get_or xs here.exclusion-index no_exclusion in
           let free : (other : ℕ) → get_or here.first (x.group - 1) None ≡ Some other → other ≡ x.member =
           λ other is. elim w.in_default.branch [
             | in_default-via-in-Some+else-other-member v ↦ one_member _ _ (sym is ∙ v.in-Some.is) ∙ v.if-other-member.false
             | in_default-via-in_default v ↦ cc
           ] in
-          firsts_taken c.args.docket.now xs c.deref-exclusion-items.ensures.value c.args.taken.now.takes here.exclusion-index here.first c.loop-exclusion-test.true here.invariant _ w.if-taken-member.true free w.first-is
-      | else-taken-member w ↦
-          firsts_passed c.args.docket.now xs c.deref-exclusion-items.ensures.value c.args.taken.now.takes here.exclusion-index here.first c.loop-exclusion-test.true here.invariant _ w.if-taken-member.false w.first-is
+          firsts_taken c.args.docket.now xs c.deref-exclusion-items.ensures.value c.args.tally.now.takes here.exclusion-index here.first c.loop-exclusion-test.true here.invariant _ w.if-tally-member.true free w.first-is
+      | else-tally-member w ↦
+          firsts_passed c.args.docket.now xs c.deref-exclusion-items.ensures.value c.args.tally.now.takes here.exclusion-index here.first c.loop-exclusion-test.true here.invariant _ w.if-tally-member.false w.first-is
     ]
 
 pub returns-in-Some : goal.returns-in-Some
@@ -29,12 +29,12 @@ returns-in-Some c =
     let xs = c.deref-exclusion-items.result.now in
     let here = c.loop-exclusion in
     decided_false (λ kept.
-    firsts_differ c.args.docket.now xs c.deref-exclusion-items.ensures.value c.args.taken.now.takes here.exclusion-index here.first c.loop-exclusion-test.true here.invariant
-    c.if-taken-member.true c.in-Some.other c.in-Some.is c.if-other-member.true
-    (subst (λ es. ExclusionsKept es c.args.taken.now.takes) (sym c.deref-exclusion-items.ensures.value) kept))
+    firsts_differ c.args.docket.now xs c.deref-exclusion-items.ensures.value c.args.tally.now.takes here.exclusion-index here.first c.loop-exclusion-test.true here.invariant
+    c.if-tally-member.true c.in-Some.other c.in-Some.is c.if-other-member.true
+    (subst (λ es. ExclusionsKept es c.args.tally.now.takes) (sym c.deref-exclusion-items.ensures.value) kept))
 
 pub returns : goal.returns
 returns c =
     let xs = c.deref-exclusion-items.result.now in
-    decided_true (subst (λ es. ExclusionsKept es c.args.taken.now.takes) c.deref-exclusion-items.ensures.value
-    (firsts_all c.args.docket.now xs c.deref-exclusion-items.ensures.value c.args.taken.now.takes c.loop-exclusion.exclusion-index c.loop-exclusion.first c.loop-exclusion-test.false c.loop-exclusion.invariant))
+    decided_true (subst (λ es. ExclusionsKept es c.args.tally.now.takes) c.deref-exclusion-items.ensures.value
+    (firsts_all c.args.docket.now xs c.deref-exclusion-items.ensures.value c.args.tally.now.takes c.loop-exclusion.exclusion-index c.loop-exclusion.first c.loop-exclusion-test.false c.loop-exclusion.invariant))

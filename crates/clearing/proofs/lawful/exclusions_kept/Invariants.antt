@@ -3,4 +3,4 @@ use Rattle.clearing.proofs.Exclusions.{Firsts}
 use Rattle.clearing.proofs.lawful.exclusions_kept.Given as goal
 
 abbrev pub invariant-loop-exclusion : goal.invariant-loop-exclusion
-invariant-loop-exclusion l = Firsts l.exclusion-items l.taken.takes l.exclusion-index l.first
+invariant-loop-exclusion l = Firsts l.exclusion-items l.tally.takes l.exclusion-index l.first

@@ -18,19 +18,19 @@ use Rattle.clearing.proofs.lawful.worth.Goals.{else-pairs_kept-via-then-pairs_ke
 
 pub dates_kept-requires : goal.dates_kept-requires
 dates_kept-requires c =
-    let sums = subst (Bounded 400000000) (sym c.new-taken.ensures) (taken-bounded c.args.docket.now c.args.choice) in
-    let sold = subst Sold (sym c.sell-sales.ensures) (sold_in_all c.new-taken.result.supply c.args.docket.now) in
+    let sums = subst (Bounded 400000000) (sym c.new-tally.ensures) (taken-bounded c.args.docket.now c.args.choice) in
+    let sold = subst Sold (sym c.sell-sales.ensures) (sold_in_all c.new-tally.result.supply c.args.docket.now) in
     record { before = sums.before; after = sums.after; sold = sold.sold }
 
 pub overflow_cast-result : goal.overflow_cast-result
 overflow_cast-result c =
-    let sold = subst Sold (sym c.sell-sales.ensures) (sold_in_all c.new-taken.result.supply c.args.docket.now) in
+    let sold = subst Sold (sym c.sell-sales.ensures) (sold_in_all c.new-tally.result.supply c.args.docket.now) in
     omega (arith, ints, sold.income)
 
 pub overflow_sub-result : goal.overflow_sub-result
 overflow_sub-result c =
-    let sold = subst Sold (sym c.sell-sales.ensures) (sold_in_all c.new-taken.result.supply c.args.docket.now) in
-    let cost = subst Priced (sym c.new-taken.ensures) (taken-priced c.args.docket.now c.args.choice) in
+    let sold = subst Sold (sym c.sell-sales.ensures) (sold_in_all c.new-tally.result.supply c.args.docket.now) in
+    let cost = subst Priced (sym c.new-tally.ensures) (taken-priced c.args.docket.now c.args.choice) in
     omega (arith, ints, sold.income, cost.low, cost.high)
 
 -- the bands of a docket are in order
@@ -41,10 +41,10 @@ pub returns-then-dates_kept : goal.returns-then-dates_kept
 returns-then-dates_kept c =
     let d = c.args.docket.now in
     let choice = c.args.choice in
-    let t = c.new-taken.result in
+    let t = c.new-tally.result in
     let s = c.sell-sales.result in
     let sold = subst Sold (sym c.sell-sales.ensures) (sold_in_all t.supply d) in
-    let cost = subst Priced (sym c.new-taken.ensures) (taken-priced d choice) in
+    let cost = subst Priced (sym c.new-tally.ensures) (taken-priced d choice) in
     let rules : Ruled (view d) t s = record {
       pairs = c.if-pairs_kept.ensures.0 refl;
       exclusions = c.if-exclusions_kept.ensures.0 refl;
@@ -52,9 +52,9 @@ returns-then-dates_kept c =
       dates = c.if-dates_kept.ensures.0 refl;
     } in
     let worth : Worth (view d) choice (Some _) = (
-      lawful-from d choice t s c.new-taken.ensures c.sell-sales.ensures (λ m. filled_within (view d) choice m (in_order d) d.bands_fit) rules,
+      lawful-from d choice t s c.new-tally.ensures c.sell-sales.ensures (λ m. filled_within (view d) choice m (in_order d) d.bands_fit) rules,
       worth-stored t s cost sold
-          ∙ ap₂ (λ n z. pos n -ℤ z) (income-is d choice t s c.new-taken.ensures c.sell-sales.ensures) (ap (λ t. t.cost) c.new-taken.ensures),
+          ∙ ap₂ (λ n z. pos n -ℤ z) (income-is d choice t s c.new-tally.ensures c.sell-sales.ensures) (ap (λ t. t.cost) c.new-tally.ensures),
     ) in
     record {
       value = worth-once (view d) choice (Some _) (worth_of (view d) choice) worth (worth_tells (view d) (ranged_docket d) choice);
@@ -67,7 +67,7 @@ returns-else-pairs_kept c =
     let d = c.args.docket.now in
     let choice = c.args.choice in
     let best = best-filled (view d) choice (in_order d) d.bands_fit in
-    let rules = λ (sales : List ℕ) (lawful : Lawful (view d) choice sales). ruled_from d choice c.new-taken.result c.sell-sales.result c.new-taken.ensures c.sell-sales.ensures (best.lawful sales lawful) in
+    let rules = λ (sales : List ℕ) (lawful : Lawful (view d) choice sales). ruled_from d choice c.new-tally.result c.sell-sales.result c.new-tally.ensures c.sell-sales.ensures (best.lawful sales lawful) in
     let worth : Worth (view d) choice None = λ sales lawful.
     elim c.else-pairs_kept.branch [
       | else-pairs_kept-via-then-pairs_kept+then-exclusions_kept+then-zones_kept+else-dates_kept w ↦

@@ -19,7 +19,7 @@ all-requires-clause-callable c =
 pub returns : goal.returns
 returns c =
     let limits = vec_items c.args.docket.now.limits.list in
-    let t = c.args.taken.now in
+    let t = c.args.tally.now in
     tested-all (λ (l : Limit). leb (cond (eqb l.sort 1) (get_or t.nameplate (l.zone - 1) 0) (cond (eqb l.sort 2) (get_or t.export (l.zone - 1) 0) 0)) l.amount) _
     (λ l. load_decides l.sort _ _ l.amount) limits c.all.result
     (all_from_yields_List _ _ _ c.all.result c.all.ensures.ran (YieldsList-from_slice limits cc) (λ x b q k. search (rules, tests)))

@@ -2,7 +2,7 @@ use Rattle.std.proofs.Common.{w64, SFits, sym, ◌∙◌, rules}
 use Rattle.std.proofs.lemmas.Result.{err_from_is_err_and}
 use Rattle.std.proofs.lemmas.Int.{to_z-of_z}
 use Rattle.journals.specs.Readers.{unread}
-use Rattle.journals.proofs.Zones.{zones_more, zones_wrong, zones_all}
+use Rattle.journals.proofs.ZoneTexts.{zones_more, zones_wrong, zones_all}
 use Rattle.journals.proofs.stacks.reading.sixteen.Goals as goal
 
 pub returns-in_err-numbers : goal.returns-in_err-numbers

@@ -1,7 +1,7 @@
 use Rattle.std.proofs.Common.{◌≡◌, ◌-◌, take, length}
 use Rattle.journals.specs.Readers.{unread}
 use Rattle.journals.specs.Stacks.{signeds_at}
-use Rattle.journals.proofs.Zones.{after}
+use Rattle.journals.proofs.ZoneTexts.{after}
 use Rattle.journals.proofs.stacks.reading.sixteen.Given as goal
 
 -- the numbers so far, and those that are still to be read
