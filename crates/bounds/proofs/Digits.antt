@@ -7,7 +7,7 @@ use Rattle.std.proofs.lemmas.List.{append-nil, length-take-le, take_more}
 use Rattle.std.proofs.lemmas.List.Elements.{filter-append}
 use Rattle.clearing.specs.declared.dockets.PricedPackage.{PricedPackage}
 use Rattle.clearing.specs.Choices.{taken}
-use Rattle.bounds.specs.Splits.{taken_none, taken-splits}
+use Rattle.bounds.specs.Laws.Splits.{taken_none, taken-splits}
 
 module _ (ps : List PricedPackage) (i r : ℕ) (low : r < 2 ^ i) where
   -- digits below a place take of the packages before it

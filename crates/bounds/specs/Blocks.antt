@@ -1,4 +1,4 @@
--- Blocks of choices, and what a bounding rule may say of one. Nothing here searches. Assumes nothing.
+-- Blocks of choices, and what a bounding rule may say of one. Nothing here searches.
 use Rattle.std.specs.Prelude.{◌≡◌, ℕ, ◌+◌, ◌%◌, ◌^◌, ◌<◌, ◌≤◌, List, length, ℤ, ◌≤ℤ◌, Some, None, Option}
 use Rattle.clearing.specs.Closing.{ByClosing}
 use Rattle.clearing.specs.Lawful.{View, Lawful, surplus, choices}

@@ -1,11 +1,5 @@
 pub mod Blocks
 pub mod Multipliers
 pub mod Rules
-pub mod Caps
-pub mod Costs
-pub mod Parts
-pub mod Gains
 pub mod Live
-pub mod Chains
-pub mod Splits
-pub mod Tangents
+pub mod Laws

@@ -1,11 +1,20 @@
--- What the passes over pairs, exclusions and limits find, that tells which packages could be taken with others. Assumes nothing.
-use Rattle.std.specs.Prelude.{ℕ, ◌+◌, ◌-◌, min, max, Bool, true, false, not, ◌&&◌, ◌||◌, List, [], ◌∷◌, ◌==◌, nat_le, slice_index, slice_index_or, if◌then◌else◌}
+-- What the passes over pairs, exclusions and limits find, that tells which packages could be taken with others.
+use Rattle.bounds.specs.Rules.{stands}
+use Rattle.clearing.specs.Tallies.{tally_of}
+use Rattle.clearing.specs.Lawful.{View}
+use Rattle.clearing.specs.declared.dockets.PricedPackage.{PricedPackage}
+use Rattle.std.specs.Prelude.{ℕ, ◌+◌, ◌-◌, min, max, Bool, true, false, not, ◌&&◌, ◌||◌, List, [], ◌∷◌, ◌==◌, nat_le, slice_index, slice_index_or, if◌then◌else◌, ◌≡◌}
 use Rattle.offers.specs.declared.records.Package.{Package}
 use Rattle.offers.specs.declared.records.Pair.{Pair}
 use Rattle.offers.specs.declared.records.Exclusion.{Exclusion}
 use Rattle.offers.specs.declared.records.Limit.{Limit}
 use Rattle.clearing.specs.declared.tallies.Tally.{Tally}
 use Rattle.clearing.specs.Judging.{implies}
+
+-- the test of two tallies is that of the packages that they are of
+abbrev pub TestsStand : View → Tally → Tally → Bool → Type 0
+TestsStand v taken possible result =
+    (T W : List PricedPackage) → taken ≡ tally_of T → possible ≡ tally_of W → result ≡ stands v T W
 
 -- do all records of a key pass a test?
 abbrev pub cleared : {X : Type 0} → (X → ℕ) → (X → Bool) → List X → ℕ → Bool

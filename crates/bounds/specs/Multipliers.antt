@@ -1,5 +1,5 @@
--- The multipliers of a block. Assumes nothing.
-use Rattle.std.specs.Prelude.{ℕ, zero, suc, ◌+◌, ◌-◌, ◌*◌, ◌/◌, max, Bool, ◌&&◌, List, [], ◌∷◌, ℤ, pos, ◌-ℤ◌, int_lt, ◌==◌, nat_lt, slice_index, if◌then◌else◌}
+-- The multipliers of a block.
+use Rattle.std.specs.Prelude.{ℕ, zero, suc, ◌+◌, ◌-◌, ◌*◌, ◌/◌, max, Bool, ◌&&◌, List, [], ◌∷◌, ℤ, pos, ◌-ℤ◌, int_lt, ◌==◌, nat_lt, slice_index, if◌then◌else◌, false, slice_index_or}
 use Rattle.std.specs.List.{filter}
 use Rattle.clearing.specs.declared.dockets.PricedPackage.{PricedPackage}
 use Rattle.clearing.specs.declared.dockets.OpenBand.{OpenBand}
@@ -38,6 +38,14 @@ abbrev pub price_at : List OpenBand → ℕ → ℕ → ℕ
 price_at [] m amount = 0
 price_at (b ∷ bs) m amount =
     max (if b.terms.market == m && nat_lt amount (b.ahead + b.terms.quantity) then b.terms.price else 0) (price_at bs m amount)
+
+-- of each market the one number where a test holds, else the other
+abbrev pub either : List Bool → Multipliers → Multipliers → Multipliers
+either tests one other = row (λ m. if slice_index_or tests (m - 1) false then unit_worth one m else unit_worth other m) 1 5
+
+-- of each market, is more supplied than its bands ask for that pay above its multiplier?
+abbrev pub over_asked : List OpenBand → Multipliers → List ℕ → List Bool
+over_asked bands l supplies = row (λ m. nat_lt (asked_above bands l m) (slice_index supplies (m - 1))) 1 5
 
 -- half-way between, rounded down
 abbrev pub middle : Between → Multipliers

@@ -1,4 +1,4 @@
--- What each bounding rule answers. Assumes nothing.
+-- What each bounding rule answers.
 use Rattle.std.specs.Prelude.{ℕ, zero, suc, ◌+◌, ◌-◌, ◌*◌, ◌^◌, Bool, ◌&&◌, List, [], ◌∷◌, take, fold, ℤ, pos, ◌+ℤ◌, ◌-ℤ◌, Some, None, Option, if◌then◌else◌}
 use Rattle.std.specs.Int.{int_max, int_min}
 use Rattle.std.specs.List.{filter}
@@ -60,15 +60,17 @@ lone_gains v choice (suc digit) = lone_gains v choice digit +ℤ int_max (unlimi
 abbrev pub one_by_one : Answers
 one_by_one v b = Some (unlimited v b.first +ℤ lone_gains v b.first b.free)
 
+-- taken packages T keep the rules that taking more of the possible ones W does not mend: pairs, exclusions and zones
+abbrev pub stands : View → List PricedPackage → List PricedPackage → Bool
+stands v T W = pairs_kept v.pairs T W && (exclusions_kept v.exclusions T && zones_kept v.limits T)
+
 -- limits: none where the fixed packages break an exclusion or a limit of a zone, or need one that is not open or fixed as left out
 abbrev pub limits_kept : Answers
-limits_kept v b =
-    if pairs_kept v.pairs (fixed v b) (possible v b) && (exclusions_kept v.exclusions (fixed v b) && zones_kept v.limits (fixed v b))
-    then Some ceiling else None
+limits_kept v b = if stands v (fixed v b) (possible v b) then Some ceiling else None
 
--- a package that could be taken with others, by the tests of the limits rule (W: those that may be taken in all)
+-- a package that could be taken with others, by the tests of the limits rule
 abbrev pub joins : View → List PricedPackage → List PricedPackage → PricedPackage → Bool
-joins v T W p = pairs_kept v.pairs (p ∷ T) W && (exclusions_kept v.exclusions (p ∷ T) && zones_kept v.limits (p ∷ T))
+joins v T W p = stands v (p ∷ T) W
 
 -- the free packages of a block that could be taken with the fixed ones
 abbrev pub live_ones : View → Span → List PricedPackage

@@ -5,7 +5,7 @@ ghost use Rattle.clearing.specs.Lawful.{view};
 ghost use Rattle.bounds.specs.Blocks.{span};
 ghost use Rattle.bounds.specs.Rules.{all_in, fixed, free_ones, below_zero};
 ghost use Rattle.clearing.proofs.ClosedRanges.{ranged-closing};
-ghost use Rattle.bounds.specs.Caps.{all_in-sound};
+ghost use Rattle.bounds.specs.Laws.AllIn.{all_in-sound};
 
 use crate::blocks::{Block, BoundingRule};
 use clearing::{Docket, Tally, sell};

@@ -1,7 +1,7 @@
 //! A cap that no surplus reaches: the rule that skips nothing.
 ghost use Rattle.bounds.specs.Rules.{always};
 ghost use Rattle.clearing.proofs.ClosedRanges.{ranged-closing};
-ghost use Rattle.bounds.specs.Caps.{always-sound};
+ghost use Rattle.bounds.specs.Laws.Ceiling.{always-sound};
 
 use crate::blocks::{Block, BoundingRule, CEILING};
 use clearing::Docket;

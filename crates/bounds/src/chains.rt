@@ -1,7 +1,7 @@
 //! Any number of rules as one: no lawful choice if any says so, else the smallest cap.
 ghost use Rattle.std.specs.Prelude.{map};
 ghost use Rattle.bounds.specs.Rules.{chained};
-ghost use Rattle.bounds.specs.Chains.{chained-sound};
+ghost use Rattle.bounds.specs.Laws.Joined.{chained-sound};
 
 use crate::blocks::{Block, BoundingRule};
 use clearing::Docket;

@@ -1,6 +1,6 @@
 //! Two rules as one: no lawful choice if either says so, else the smaller cap.
-ghost use Rattle.bounds.specs.Rules.{smaller};
-ghost use Rattle.bounds.specs.Caps.{smaller-sound};
+ghost use Rattle.bounds.specs.Rules.{joined};
+ghost use Rattle.bounds.specs.Laws.Joined.{joined-sound};
 
 use crate::blocks::{Block, BoundingRule};
 use clearing::Docket;
@@ -9,9 +9,9 @@ use clearing::Docket;
 pub struct Joined<P, Q>(pub P, pub Q);
 
 impl<P: BoundingRule, Q: BoundingRule> BoundingRule for Joined<P, Q> {
-    ghost answers = { λ s v b. smaller (P.BoundingRule.answers s.0 v b) (Q.BoundingRule.answers s.1 v b) };
+    ghost answers = { λ s. joined (P.BoundingRule.answers s.0) (Q.BoundingRule.answers s.1) };
 
-    ghost sound = { λ s v b closed block. smaller-sound v b _ _ (P.BoundingRule.sound s.0 v b closed block) (Q.BoundingRule.sound s.1 v b closed block) };
+    ghost sound = { λ s. joined-sound _ _ (P.BoundingRule.sound s.0) (Q.BoundingRule.sound s.1) };
 
     fn consult(&mut self, docket: &Docket, block: Block) -> Option<i64> {
         match self.0.consult(docket, block) {

@@ -1,11 +1,9 @@
 //! No choice of a block is lawful where the packages that it takes for certain break a rule already.
-ghost use Rattle.std.specs.Prelude.{◌≡◌, ◌&&◌, List};
-ghost use Rattle.clearing.specs.declared.dockets.PricedPackage.{PricedPackage};
-ghost use Rattle.clearing.specs.Judging.{pairs_kept, exclusions_kept, zones_kept};
-ghost use Rattle.clearing.specs.Tallies.{tally_of};
+ghost use Rattle.clearing.specs.Lawful.{view};
+ghost use Rattle.bounds.specs.Live.{TestsStand};
 ghost use Rattle.bounds.specs.Rules.{limits_kept};
 ghost use Rattle.clearing.proofs.ClosedRanges.{ranged-closing};
-ghost use Rattle.bounds.specs.Caps.{limits-sound};
+ghost use Rattle.bounds.specs.Laws.Limits.{limits-sound};
 
 use crate::blocks::{Block, BoundingRule, CEILING};
 use clearing::{Docket, Tally, exclusions_kept, pairs_kept, zones_kept};
@@ -30,10 +28,10 @@ impl BoundingRule for Limits {
 }
 
 /// Whether taken packages keep the rules that taking more of the possible ones does not mend.
-pub(crate) fn stands(docket: &Docket, taken: &Tally, possible: &Tally) -> bool
-    ensures { (T W : List PricedPackage) → taken.now ≡ tally_of T → possible.now ≡ tally_of W → result ≡ (pairs_kept docket.now.pairs.list.items T W && (exclusions_kept docket.now.exclusions.list.items T && zones_kept docket.now.limits.list.items T)) }
+pub(crate) fn stands(docket: &Docket, tally: &Tally, possible: &Tally) -> bool
+    ensures { TestsStand (view docket.now) tally.now possible.now result }
 {
-    pairs_kept(docket, taken, possible)
-        && exclusions_kept(docket, taken)
-        && zones_kept(docket, taken)
+    pairs_kept(docket, tally, possible)
+        && exclusions_kept(docket, tally)
+        && zones_kept(docket, tally)
 }

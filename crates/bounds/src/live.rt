@@ -60,13 +60,13 @@ fn met(docket: &Docket, possible: &Tally) -> [bool; 41]
 }
 
 // Of each group the greatest member that is taken, 0 where none is; where the taken ones keep the rule of groups it is the only one.
-fn heads(docket: &Docket, taken: &Tally) -> [u8; 16]
-    ensures { result ≡ row (head taken.now.takes docket.now.exclusions.list.items) 1 16 }
+fn heads(docket: &Docket, tally: &Tally) -> [u8; 16]
+    ensures { result ≡ row (head tally.now.takes docket.now.exclusions.list.items) 1 16 }
 {
     let mut heads = [0u8; 16];
     for exclusion in docket.exclusions.list.iter() {
         let group = exclusion.group as usize - 1;
-        if taken.takes[exclusion.member as usize] {
+        if tally.takes[exclusion.member as usize] {
             heads[group] = heads[group].max(exclusion.member);
         }
     }
@@ -102,15 +102,15 @@ fn tightest(docket: &Docket, sort: Sort) -> [u64; 16]
 }
 
 // Whether the zones of a package have room for it beside the taken ones.
-fn has_room(interconnection: &[u64; 16], export: &[u64; 16], taken: &Tally, terms: &Package) -> bool
+fn has_room(interconnection: &[u64; 16], export: &[u64; 16], tally: &Tally, terms: &Package) -> bool
     requires fits { fits package_layout terms.now ≡ true }
-    requires nameplate { list_all (λ n. nat_le n 400000000) taken.now.nameplate ≡ true }
-    requires export { list_all (λ n. nat_le n 400000000) taken.now.export ≡ true }
-    ensures { result ≡ room interconnection.now export.now taken.now terms.now }
+    requires nameplate { list_all (λ n. nat_le n 400000000) tally.now.nameplate ≡ true }
+    requires export { list_all (λ n. nat_le n 400000000) tally.now.export ≡ true }
+    ensures { result ≡ room interconnection.now export.now tally.now terms.now }
 {
     let from = terms.interconnection_zone as usize - 1;
     let to = terms.export_zone as usize - 1;
     terms.unqualified != 1
-        || taken.nameplate[from] + terms.nameplate as u64 <= interconnection[from]
-            && taken.export[to] + terms.energy as u64 <= export[to]
+        || tally.nameplate[from] + terms.nameplate as u64 <= interconnection[from]
+            && tally.export[to] + terms.energy as u64 <= export[to]
 }

@@ -8,14 +8,14 @@ ghost use Rattle.clearing.specs.Lawful.{view};
 ghost use Rattle.clearing.specs.Ranges.{fits, package_fits};
 ghost use Rattle.clearing.specs.Tallies.{row, plus};
 ghost use Rattle.bounds.specs.Blocks.{span};
-ghost use Rattle.bounds.specs.Multipliers.{value_at, gain, gainful, asked_above, price_at, unit_worth, middle, narrowed, widest, multipliers};
+ghost use Rattle.bounds.specs.Multipliers.{value_at, gain, gainful, asked_above, either, over_asked, price_at, unit_worth, middle, narrowed, widest, multipliers};
 ghost use Rattle.bounds.specs.Rules.{fixed};
 
 use crate::blocks::Block;
 use clearing::{CERTIFICATES, Docket, ENERGY, PricedPackage, supply_of};
 use offers::Package;
 
-// How often the multipliers are halved.
+// How often the stretch between low and high is halved.
 const TURNS: u8 = 6;
 
 /// Between which pesos the multipliers are looked for, market m at place m - 1.
@@ -32,7 +32,7 @@ pub(crate) fn multipliers(docket: &Docket, block: Block, base: &[u64; 5], live: 
     ensures value { result ≡ multipliers docket.now.bands.list.items (fixed (view docket.now) (span block)) (taken docket.now.packages.list.items live) }
     ensures range { list_all (λ n. nat_le n 10000000) result ≡ true }
 {
-    let mut between = Between::beginning(docket, block, base, live);
+    let mut between = Between::widest(docket, block, base, live);
     for _turn in 0..TURNS {
         between = between.narrowed(docket, block, base, live);
     }
@@ -41,7 +41,7 @@ pub(crate) fn multipliers(docket: &Docket, block: Block, base: &[u64; 5], live: 
 
 impl Between {
     // What the first band pays that is not filled by all, and by the fixed alone.
-    fn beginning(docket: &Docket, block: Block, base: &[u64; 5], live: u64) -> Between
+    fn widest(docket: &Docket, block: Block, base: &[u64; 5], live: u64) -> Between
         requires { base.now ≡ row (λ m. supply m (fixed (view docket.now) (span block))) 1 5 }
         ensures { result ≡ widest docket.now.bands.list.items (fixed (view docket.now) (span block)) (taken docket.now.packages.list.items live) }
     {
@@ -91,7 +91,7 @@ fn half_way(low: u32, high: u32) -> u32
 
 // Of each market the one number where a test holds, else the other.
 fn either(tests: &[bool; 5], yes: &[u32; 5], no: &[u32; 5]) -> [u32; 5]
-    ensures { result ≡ row (λ m. if slice_index_or tests.now (m - 1) false then unit_worth yes.now m else unit_worth no.now m) 1 5 }
+    ensures { result ≡ either tests.now yes.now no.now }
 {
     [
         pick(tests[0], yes[0], no[0]),
@@ -141,7 +141,7 @@ fn prices_at(docket: &Docket, amounts: &[u64; 5]) -> [u32; 5]
 
 // Of each market, is more supplied than its bands ask for that pay above its multiplier?
 fn oversupplied(docket: &Docket, multipliers: &[u32; 5], supply: &[u64; 5]) -> [bool; 5]
-    ensures { result ≡ row (λ m. nat_lt (asked_above docket.now.bands.list.items multipliers.now m) (slice_index supply.now (m - 1))) 1 5 }
+    ensures { result ≡ over_asked docket.now.bands.list.items multipliers.now supply.now }
 {
     let asked = asked_above(docket, multipliers);
     [
@@ -183,7 +183,7 @@ fn gainful_choice(docket: &Docket, multipliers: &[u32; 5], choice: u64) -> u64
 }
 
 // What a package's supplies are worth, in pesos.
-fn worth(multipliers: &[u32; 5], terms: &Package) -> u64
+fn value_at(multipliers: &[u32; 5], terms: &Package) -> u64
     requires { fits package_layout terms.now ≡ true }
     ensures value { result ≡ value_at multipliers.now (λ m. supplied m terms.now) }
     ensures bound { result ≤ 90000000000000000 }
@@ -201,5 +201,5 @@ pub(crate) fn gain(multipliers: &[u32; 5], priced: &PricedPackage) -> i64
     ensures low { neg_ℤ (pos 100000000000) ≤ℤ result }
     ensures high { result ≤ℤ pos 100000000000000000 }
 {
-    worth(multipliers, &priced.terms) as i64 - priced.price
+    value_at(multipliers, &priced.terms) as i64 - priced.price
 }

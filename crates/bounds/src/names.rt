@@ -1,6 +1,6 @@
 //! The rules that stand by themselves, by name.
 ghost use Rattle.bounds.specs.Rules.{named};
-ghost use Rattle.bounds.specs.Chains.{named-sound};
+ghost use Rattle.bounds.specs.Laws.Names.{named-sound};
 
 use crate::all_in::AllIn;
 use crate::blocks::{Block, BoundingRule};

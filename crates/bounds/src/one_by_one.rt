@@ -3,7 +3,7 @@ ghost use Rattle.std.specs.Prelude.{◌≡◌, pos, ◌≤ℤ◌, neg_ℤ};
 ghost use Rattle.clearing.specs.Lawful.{view};
 ghost use Rattle.bounds.specs.Rules.{one_by_one, unlimited};
 ghost use Rattle.clearing.proofs.ClosedRanges.{ranged-closing};
-ghost use Rattle.bounds.specs.Gains.{one_by_one-sound};
+ghost use Rattle.bounds.specs.Laws.OneByOne.{one_by_one-sound};
 
 use crate::blocks::{Block, BoundingRule};
 use clearing::{Docket, Tally, sell};

@@ -2,7 +2,7 @@
 //! that any of its choices can sell.
 ghost use Rattle.bounds.specs.Rules.{shares_kept};
 ghost use Rattle.clearing.proofs.ClosedRanges.{ranged-closing};
-ghost use Rattle.bounds.specs.Caps.{shares-sound};
+ghost use Rattle.bounds.specs.Laws.Shares.{shares-sound};
 
 use crate::blocks::{Block, BoundingRule, CEILING};
 use clearing::{Docket, dates_stand};

@@ -7,7 +7,7 @@ ghost use Rattle.clearing.specs.Tallies.{tally_of};
 ghost use Rattle.bounds.specs.Blocks.{span};
 ghost use Rattle.bounds.specs.Rules.{fixed, sold_above, gains_above, tangent_by, tangent};
 ghost use Rattle.clearing.proofs.ClosedRanges.{ranged-closing};
-ghost use Rattle.bounds.specs.Tangents.{tangent-sound};
+ghost use Rattle.bounds.specs.Laws.Tangent.{tangent-sound};
 
 use crate::blocks::{Block, BoundingRule};
 use crate::live::live_choice;
@@ -25,8 +25,8 @@ impl BoundingRule for Tangent {
     fn consult(&mut self, docket: &Docket, block: Block) -> Option<i64> {
         let first = Tally::new(docket, block.first);
         let live = live_choice(docket, block);
-        let worths = multipliers(docket, block, &first.supply, live);
-        Some(cap(docket, block, &first, live, &worths))
+        let multipliers = multipliers(docket, block, &first.supply, live);
+        Some(cap(docket, block, &first, live, &multipliers))
     }
 }
 

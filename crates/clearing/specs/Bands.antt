@@ -1,4 +1,4 @@
--- Which band is served before which, and what stands ahead of a band. Assumes nothing.
+-- Which band is served before which, and what stands ahead of a band.
 use Rattle.std.specs.Prelude.{ℕ, Bool, true, ◌&&◌, ◌||◌, List, [], ◌∷◌, map, ◌==◌, nat_lt, if◌then◌else◌}
 use Rattle.offers.specs.declared.records.Band.{Band}
 use Rattle.clearing.specs.declared.dockets.OpenBand.{OpenBand}

@@ -1,4 +1,4 @@
--- The packages that a choice takes, and what they come to. Assumes nothing.
+-- The packages that a choice takes, and what they come to.
 use Rattle.std.specs.Prelude.{ℕ, ◌+◌, ◌/◌, ◌%◌, Bool, false, ◌&&◌, ◌||◌, List, [], ◌∷◌, ℤ, pos, ◌+ℤ◌, ◌==◌, if◌then◌else◌}
 use Rattle.offers.specs.declared.records.Package.{Package}
 use Rattle.clearing.specs.declared.dockets.PricedPackage.{PricedPackage}

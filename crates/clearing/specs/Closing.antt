@@ -1,4 +1,4 @@
--- What stands in the docket of a closing, and what a closing makes of the entries and a price rule's meaning. Assumes nothing.
+-- What stands in the docket of a closing, and what a closing makes of the entries and a price rule's meaning.
 use Rattle.std.specs.Prelude.{◌≡◌, ℕ, ◌+◌, ◌≤◌, true, ◌↔◌, List, [], ◌∷◌, map, Contains, ℤ, Ok, Err, Result, IsOk, ◌-◌, pos, slice_index_or}
 use Rattle.offers.specs.declared.records.Package.{Package}
 use Rattle.offers.specs.declared.records.Band.{Band}

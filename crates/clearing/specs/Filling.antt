@@ -1,4 +1,4 @@
--- Why the filled sales are the sales to take: they are lawful where any are, and bring most. Assumes nothing.
+-- Why the filled sales are the sales to take: they are lawful where any are, and bring most.
 use Rattle.std.specs.Prelude.{ℕ, ◌*◌, ◌≤◌, List, [], ◌∷◌}
 use Rattle.clearing.specs.declared.dockets.OpenBand.{OpenBand}
 use Rattle.clearing.specs.Choices.{taken, supply}

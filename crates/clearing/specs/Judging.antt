@@ -1,4 +1,4 @@
--- What a choice is worth, worked out: the rules of a lawful choice as tests. Assumes nothing.
+-- What a choice is worth, worked out: the rules of a lawful choice as tests.
 use Rattle.std.specs.List.{list_all}
 use Rattle.std.specs.Prelude.{ℕ, ◌*◌, Bool, not, ◌&&◌, ◌||◌, List, [], ◌∷◌, ℤ, Some, None, Option, ◌==◌, nat_le, if◌then◌else◌}
 use Rattle.offers.specs.declared.records.Pair.{Pair}

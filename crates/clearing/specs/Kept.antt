@@ -1,4 +1,4 @@
--- The rules of lawfulness as the code tests them, over a tally's rows. Assumes nothing.
+-- The rules of lawfulness as the code tests them, over a tally's rows.
 use Rattle.std.specs.Prelude.{◌≡◌, ℕ, ◌-◌, ◌*◌, ◌≤◌, Bool, true, false, List, slice_index, slice_index_or, ◌==◌, if◌then◌else◌}
 use Rattle.std.specs.List.{AllByRecursion as Every}
 use Rattle.offers.specs.declared.records.Pair.{Pair}

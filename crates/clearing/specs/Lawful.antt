@@ -1,4 +1,4 @@
--- What a lawful choice is, what it is worth, and which is best. Nothing here searches. Assumes nothing.
+-- What a lawful choice is, what it is worth, and which is best. Nothing here searches.
 use Rattle.std.specs.Prelude.{◌≡◌, ℕ, ◌+◌, ◌*◌, ◌^◌, ◌<◌, ◌≤◌, min, true, ◌&&◌, List, [], ◌∷◌, map, length, ℤ, pos, ◌-ℤ◌, ◌≤ℤ◌, Some, None, vec_items, Option, ◌==◌, if◌then◌else◌}
 use Rattle.std.specs.List.{AllByRecursion as Every}
 use Rattle.offers.specs.declared.records.Pair.{Pair}

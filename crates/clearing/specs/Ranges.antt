@@ -1,4 +1,4 @@
--- Ranges of what a docket holds, which its arithmetic rests on. Assumes nothing.
+-- Ranges of what a docket holds, which its arithmetic rests on.
 use Rattle.std.specs.Prelude.{Bool, true, ◌&&◌, List, [], ◌∷◌, ℤ, ◌==◌, int_le, nat_le}
 use Rattle.offers.specs.Fields.{within}
 use Rattle.offers.specs.Layouts.{Layout, fault_of}

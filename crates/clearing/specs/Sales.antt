@@ -1,4 +1,4 @@
--- How a supply fills the bands. Assumes nothing.
+-- How a supply fills the bands.
 use Rattle.std.specs.Prelude.{ℕ, ◌-◌, ◌*◌, min, List, [], ◌∷◌, ◌==◌, slice_index, if◌then◌else◌}
 use Rattle.clearing.specs.declared.dockets.OpenBand.{OpenBand}
 use Rattle.clearing.specs.declared.sales.Sales.{Sales}

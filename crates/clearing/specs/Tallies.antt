@@ -1,4 +1,4 @@
--- What the taken packages come to, set out as the code holds it. Assumes nothing.
+-- What the taken packages come to, set out as the code holds it.
 use Rattle.std.specs.List.{list_all, range_with_len}
 use Rattle.std.specs.Prelude.{◌≡◌, ℕ, zero, suc, ◌+◌, true, List, [], ◌∷◌, pos, ◌+ℤ◌, ◌≤ℤ◌, nat_le, slice_set, map, neg_ℤ}
 use Rattle.clearing.specs.declared.dockets.PricedPackage.{PricedPackage}

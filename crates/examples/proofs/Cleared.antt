@@ -8,7 +8,9 @@ use Rattle.pricing.specs.Prices.{Bounded, filed_price}
 use Rattle.clearing.specs.Lawful.{Best}
 use Rattle.clearing.proofs.ClosedRanges.{ranged-closing}
 use Rattle.bounds.specs.Blocks.{SoundRule}
-use Rattle.bounds.specs.Caps.{smaller-sound, limits-sound, all_in-sound}
+use Rattle.bounds.specs.Laws.Joined.{smaller-sound}
+use Rattle.bounds.specs.Laws.Limits.{limits-sound}
+use Rattle.bounds.specs.Laws.AllIn.{all_in-sound}
 use Rattle.bounds.specs.Rules.{limits_and_all_in}
 use Rattle.rounds.specs.Model.{Call, State, IsOpen, IsClosed, IsAwarded, Model, after}
 use Rattle.rounds.specs.Promises.{LawfulCall, PromiseIn}

@@ -1,4 +1,4 @@
--- What a round's first calls are answered, what they leave, and what an award comes to. Assumes nothing.
+-- What a round's first calls are answered, what they leave, and what an award comes to.
 use Rattle.std.specs.Prelude.{◌≡◌, ℕ, ◌-◌, List, [], ◌∷◌, ◌++◌, map, length, replicate, ℤ, Some, None, Option, Ok}
 use Rattle.offers.specs.declared.records.Band.{Band}
 use Rattle.offers.specs.declared.records.Package.{Package}

@@ -1,4 +1,4 @@
--- The offers of the worked rounds, as calls that file them and as a sheet. Assumes nothing.
+-- The offers of the worked rounds, as calls that file them and as a sheet.
 use Rattle.std.specs.Prelude.{ℕ, ◌+◌, List, [], ◌∷◌, ◌++◌}
 use Rattle.offers.specs.declared.memory.Offer.TheVariants as offer
 use Rattle.offers.specs.declared.records.Band.{Band}

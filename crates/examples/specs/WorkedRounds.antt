@@ -1,4 +1,4 @@
--- The worked rounds of docs/RULES.md. Assumes nothing.
+-- The worked rounds of docs/RULES.md.
 use Rattle.std.specs.Prelude.{◌≡◌, ℕ, ◌-◌, List, [], ◌∷◌, ◌++◌, replicate, Ok, Err, Result, ℤ, pos, neg_ℤ}
 use Rattle.offers.specs.declared.kinds.Kind.TheVariants as kind
 use Rattle.offers.specs.declared.memory.Offer.TheVariants as offer

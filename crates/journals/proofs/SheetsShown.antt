@@ -9,7 +9,7 @@ use Rattle.offers.specs.declared.registers.Entry.TheVariants.{Vacant, Open, With
 use Rattle.offers.specs.declared.refusals.Code.TheVariants.{NoRoom}
 use Rattle.offers.specs.Layouts.{Layout, LayoutLaws}
 use Rattle.offers.specs.Tables.{package_layout, band_layout, pair_layout, exclusion_layout, limit_layout}
-use Rattle.offers.specs.LawfulKinds.{package_laws, band_laws, pair_laws, exclusion_laws, limit_laws}
+use Rattle.offers.specs.Laws.Kinds.{package_laws, band_laws, pair_laws, exclusion_laws, limit_laws}
 use Rattle.offers.specs.Memory.{Entries, Sound}
 use Rattle.sheets.specs.Fields.{content_size}
 use Rattle.sheets.specs.Writing.{entry_bytes, register_bytes, kind_bytes, sheet_of, WrittenSheet}

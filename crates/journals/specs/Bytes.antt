@@ -1,4 +1,4 @@
--- Bytes as a word of two hexadecimal digits each, in either case. Assumes nothing.
+-- Bytes as a word of two hexadecimal digits each, in either case.
 use Rattle.std.specs.Prelude.{ℕ, List, [], ◌∷◌, Ok, Err, Result}
 use Rattle.hex.specs.Hex.{decode_of}
 use Rattle.hex.specs.declared.error.FromHexError.{FromHexError}

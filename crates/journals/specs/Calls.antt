@@ -1,4 +1,4 @@
--- The calls that lines stand for, and what is shown of their buffers. Assumes nothing.
+-- The calls that lines stand for, and what is shown of their buffers.
 use Rattle.std.specs.Prelude.{ℕ, ◌+◌, ◌*◌, map, replicate, Some, None, Option}
 use Rattle.pricing.specs.Prices.{filed_price, place_price, currency_price, Meaning}
 use Rattle.bounds.specs.Blocks.{Answers}

@@ -1,4 +1,4 @@
--- Bounding rules as words: one, or several joined. Assumes nothing.
+-- Bounding rules as words: one, or several joined.
 use Rattle.std.specs.Prelude.{ℕ, List, [], ◌∷◌, vec_items, ◌==◌, Ok, Err, Result}
 use Rattle.std.specs.List.{slice_split}
 use Rattle.bounds.specs.declared.chains.Chain.{Chain}

@@ -1,4 +1,4 @@
--- A journal: the calls of its lines in order, or the first line that is none and why. Assumes nothing.
+-- A journal: the calls of its lines in order, or the first line that is none and why.
 use Rattle.std.specs.Prelude.{◌≡◌, ℕ, ◌+◌, List, [], ◌∷◌, Some, None, Option, Ok, Err, Result}
 use Rattle.std.specs.Option.{option_map}
 use Rattle.journals.specs.declared.journals.JournalError.{JournalError}

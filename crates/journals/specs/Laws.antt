@@ -1,4 +1,4 @@
--- What writing and reading owe each other. Assumes nothing.
+-- What writing and reading owe each other.
 use Rattle.std.specs.Prelude.{◌≡◌, List, length, replicate, Some, Ok}
 use Rattle.std.specs.List.{AllByRecursion as Every}
 use Rattle.offers.specs.Memory.{Entries, Sound}

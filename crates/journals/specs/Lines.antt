@@ -1,4 +1,4 @@
--- What a line says. Assumes nothing.
+-- What a line says.
 use Rattle.std.specs.Prelude.{ℕ, List, [], ◌∷◌, vec_items, slice_index, ◌==◌, unwrap_or, Some, None, Option, Ok, Result, if◌then◌else◌}
 use Rattle.offers.specs.declared.kinds.Kind.{Kind}
 use Rattle.offers.specs.declared.memory.Offer.{Offer}

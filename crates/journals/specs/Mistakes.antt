@@ -1,4 +1,4 @@
--- What is wrong with a line, in words. Assumes nothing.
+-- What is wrong with a line, in words.
 use Rattle.std.specs.Prelude.{ℕ, List, ◌++◌, codes, decimal}
 use Rattle.journals.specs.declared.journals.Mistake.{Mistake}
 use Rattle.journals.specs.declared.wrongs.Wrong.{Wrong}

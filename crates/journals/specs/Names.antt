@@ -1,4 +1,4 @@
--- The words that stand for calls, kinds of record, price rules and bounding rules. Assumes nothing.
+-- The words that stand for calls, kinds of record, price rules and bounding rules.
 use Rattle.std.specs.Prelude.{ℕ, List, [], ◌∷◌, codes, Some, None, Option, if◌then◌else◌}
 use Rattle.std.specs.Str.{bytes_eq}
 use Rattle.offers.specs.declared.kinds.Kind.{Kind}

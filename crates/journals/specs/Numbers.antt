@@ -1,4 +1,4 @@
--- Words as numbers. Assumes nothing.
+-- Words as numbers.
 use Rattle.std.specs.Prelude.{ℕ, ◌+◌, ◌-◌, ◌*◌, ◌^◌, Bool, not, ◌&&◌, nat_lt, ◌==◌, List, [], ◌∷◌, length, ℤ, pos, neg_ℤ, Some, None, Option, Ok, Err, Result, if◌then◌else◌}
 use Rattle.std.specs.Char.{is_ascii_digit}
 use Rattle.std.specs.List.{list_all}
@@ -31,6 +31,7 @@ sized width (Some n) = if nat_lt n (256 ^ width) then Ok n else Err TooLarge
 -- a signed number: a number that four bytes hold, or one with a minus before it
 abbrev pub signed_in : List ℕ → Result ℤ Wrong
 signed_in [] = Err NotANumber
-signed_in (c ∷ cs) = if c == 45
-    then sized 4 (number_in cs) >>= λ n. Ok (neg_ℤ (pos n))
-    else sized 4 (number_in (c ∷ cs)) >>= λ n. Ok (pos n)
+signed_in (c ∷ cs) =
+    if c == 45
+    then (sized 4 (number_in cs) >>= λ n. Ok (neg_ℤ (pos n)))
+    else (sized 4 (number_in (c ∷ cs)) >>= λ n. Ok (pos n))

@@ -1,4 +1,4 @@
--- How words are read: from the left, the first that is wrong deciding. Assumes nothing.
+-- How words are read: from the left, the first that is wrong deciding.
 use Rattle.std.specs.Borrow.{Bor}
 use Rattle.std.specs.Prelude.{◌≡◌, ℕ, ℤ, List, [], ◌∷◌, Some, None, Option, Ok, Err, Result}
 use Rattle.journals.specs.declared.wrongs.ReadError.{ReadError}

@@ -1,4 +1,4 @@
--- Records as words: their fields from the left, as the kind's table has them. Assumes nothing.
+-- Records as words: their fields from the left, as the kind's table has them.
 use Rattle.std.specs.Prelude.{ℕ, List, [], ◌∷◌, map, Ok}
 use Rattle.offers.specs.Layouts.{Layout}
 use Rattle.offers.specs.Tables.{package_layout, band_layout, pair_layout, exclusion_layout, limit_layout}

@@ -1,4 +1,4 @@
--- What a run of a journal writes. Assumes nothing.
+-- What a run of a journal writes.
 use Rattle.std.specs.Prelude.{◌≡◌, ℕ, Bool, true, false, List, [], ◌∷◌, ◌++◌, map, zip, flat_map, Ok, Err, Result, Option, IfSome}
 use Rattle.std.specs.Io.KnownBytes.{Appends}
 use Rattle.rounds.specs.Model.{PlainMoment, open_and_vacant, moments_from}

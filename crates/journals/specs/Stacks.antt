@@ -1,4 +1,4 @@
--- Stacks of price rules as words. A rule is made of checked numbers only. Assumes nothing.
+-- Stacks of price rules as words. A rule is made of checked numbers only.
 use Rattle.std.specs.Prelude.{ℕ, zero, suc, ℤ, List, [], ◌∷◌, Ok, Err, if◌then◌else◌}
 use Rattle.pricing.specs.Numbers.{zone_numbers, currency_rates}
 use Rattle.journals.specs.declared.names.Top.{Top}

@@ -1,4 +1,4 @@
--- The text of what a line says, and when it has one. Assumes nothing.
+-- The text of what a line says, and when it has one.
 use Rattle.std.specs.Prelude.{◌≡◌, ℕ, ◌<◌, ◌^◌, true, List, [], ◌∷◌, ◌++◌, length, map, codes, decimal, ℤ, Some, None, Option, IfSome}
 use Rattle.std.specs.Fmt.{signed_decimal}
 use Rattle.std.specs.List.{flat_map}

@@ -1,4 +1,4 @@
--- A journal's text as lines, and a line as words. Assumes nothing.
+-- A journal's text as lines, and a line as words.
 use Rattle.std.specs.Prelude.{ℕ, Bool, true, false, ◌||◌, List, [], ◌∷◌, filter, ◌==◌, Some, None, Option}
 use Rattle.std.specs.Borrow.{Bor}
 use Rattle.std.specs.List.{slice_split}

@@ -1,4 +1,4 @@
--- What is wrong with a line decides what the line comes to. Assumes nothing.
+-- What is wrong with a line decides what the line comes to.
 use Rattle.std.specs.Prelude.{Ok, Err, Result}
 use Rattle.journals.specs.declared.wrongs.Wrong.{Wrong}
 

@@ -1,4 +1,4 @@
--- What the answer of a decoded byte, or of a field's number, says of it. Assumes nothing.
+-- What the answer of a decoded byte, or of a field's number, says of it.
 use Rattle.std.proofs.Common.{◌≡◌, ℕ, zero, suc, ◌<◌, Some, None, Ok, Option, refl, sym, arith}
 use Rattle.std.proofs.lemmas.Option.{none-some}
 use Rattle.offers.specs.Layouts.{numbered_field}

@@ -1,4 +1,4 @@
--- A ledger lends its entries to a call on one number, and what comes back is a ledger's again, of any kind. Assumes nothing.
+-- A ledger lends its entries to a call on one number, and what comes back is a ledger's again, of any kind.
 use Rattle.std.proofs.Common.{◌≡◌, ℕ, List, length, sym, subst, ◌∙◌}
 use Rattle.offers.specs.declared.ledgers.Ledger.{Ledger}
 use Rattle.offers.specs.declared.registers.Entry.{Entry}

@@ -1,4 +1,4 @@
--- What holds of one register lifted to the entries of every kind. Assumes nothing.
+-- What holds of one register lifted to the entries of every kind.
 use Rattle.std.proofs.Common.{◌≡◌, ℕ, List, get_or, Result, refl, sym, ap, ◌∙◌}
 use Rattle.offers.specs.declared.refusals.Refusal.{Refusal}
 use Rattle.offers.specs.declared.registers.Entry.{Entry}

@@ -1,4 +1,4 @@
--- Filing and withdrawing keep what every call on a register keeps, for any kind. Assumes nothing.
+-- Filing and withdrawing keep what every call on a register keeps, for any kind.
 use Rattle.std.proofs.Common.{◌≡◌, ℕ, ◌-◌, ◌<◌, ◌≤◌, min, Bool, true, false, cond, eqb, leb, ◌⊎◌, List, length, get_or, set, Some, None, Ok, Err, Result, refl, subst, inl, inr, ⊎_elim, arith, length-set}
 use Rattle.std.proofs.lemmas.List.{get_or-set_same, get_or-set_other, set_past}
 use Rattle.std.proofs.lemmas.Option.{none-some}

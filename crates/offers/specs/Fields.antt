@@ -1,4 +1,4 @@
--- A record as a row of fields: its bytes, its first field out of range, its values read from bytes. Assumes nothing.
+-- A record as a row of fields: its bytes, its first field out of range, its values read from bytes.
 use Rattle.std.specs.Prelude.{ℕ, zero, suc, ◌+◌, ◌/◌, ◌%◌, ◌^◌, Bool, ◌&&◌, List, [], ◌∷◌, ◌++◌, take, drop, nat_le, if◌then◌else◌}
 use Rattle.std.specs.Int.Digits.{number_from_digits}
 

@@ -1,4 +1,4 @@
--- What a kind of record is: its tag, its count of offer numbers and its fields; and the laws that it owes. Assumes nothing.
+-- What a kind of record is: its tag, its count of offer numbers and its fields; and the laws that it owes.
 use Rattle.std.specs.Prelude.{◌≡◌, ℕ, zero, suc, List, length, Option, Some, None}
 use Rattle.offers.specs.Fields.{Field, widths, bytes_by, values_by, allowed_by, first_false}
 

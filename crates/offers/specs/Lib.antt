@@ -5,6 +5,4 @@ pub mod Tables
 pub mod Registers
 pub mod Memory
 pub mod Marks
-pub mod LawfulKinds
-pub mod LawfulLayouts
-pub mod HighFirst
+pub mod Laws

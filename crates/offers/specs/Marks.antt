@@ -1,4 +1,4 @@
--- Which case a byte stands for: a kind by its tag, a limit's sort, a package's date. Assumes nothing.
+-- Which case a byte stands for: a kind by its tag, a limit's sort, a package's date.
 use Rattle.std.specs.Prelude.{ℕ, Some, None, Ok, Err, Option, Result, ◌==◌, if◌then◌else◌}
 use Rattle.offers.specs.declared.kinds.Unknown.{Unknown}
 use Rattle.offers.specs.declared.records.Sort.{Sort}

@@ -1,4 +1,4 @@
--- The offers of a round, kind by kind: filing, withdrawing, and what they keep. Assumes nothing.
+-- The offers of a round, kind by kind: filing, withdrawing, and what they keep.
 use Rattle.std.specs.Prelude.{◌≡◌, ℕ, List, length, replicate, Err, Result, slice_index_or}
 use Rattle.offers.specs.declared.refusals.Refusal.{Refusal}
 use Rattle.offers.specs.declared.registers.Entry.{Entry}

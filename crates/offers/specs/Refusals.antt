@@ -1,4 +1,4 @@
--- What each code's number is, and which values a refusal with it carries. Assumes nothing.
+-- What each code's number is, and which values a refusal with it carries.
 use Rattle.std.specs.Prelude.{◌≡◌, ℕ, Bool, true, false}
 use Rattle.offers.specs.declared.refusals.Code.{Code}
 use Rattle.offers.specs.declared.refusals.Code.TheVariants.{NumberOutside, FieldOutside, AlreadyOpen, AlreadyWithdrawn, NotFiled, CutShort, Strange, NotRising, Clash, PriceFault, NoRoom, StepsOutside}

@@ -1,4 +1,4 @@
--- What filing and withdrawing do to the entries of one register, of whatever kind. Assumes nothing.
+-- What filing and withdrawing do to the entries of one register, of whatever kind.
 use Rattle.std.specs.Prelude.{◌≡◌, ℕ, ◌+◌, ◌-◌, min, Bool, true, false, ◌⊎◌, List, length, Some, None, Option, Ok, Err, Result, ◌==◌, ◌≢◌, slice_index_or, slice_set, if◌then◌else◌}
 use Rattle.offers.specs.declared.refusals.Code.{Code}
 use Rattle.offers.specs.declared.refusals.Code.TheVariants.{NumberOutside, FieldOutside, AlreadyOpen, AlreadyWithdrawn, NotFiled}

@@ -1,4 +1,4 @@
--- The five kinds of record, each a table of its fields from the left: bytes, field, least, greatest. Assumes nothing.
+-- The five kinds of record, each a table of its fields from the left: bytes, field, least, greatest.
 use Rattle.std.specs.Prelude.{not, ◌&&◌, List, [], ◌∷◌, ◌==◌, slice_index, if◌then◌else◌}
 use Rattle.offers.specs.Fields.{Field, plain, within}
 use Rattle.offers.specs.Layouts.{Layout}

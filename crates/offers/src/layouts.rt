@@ -2,7 +2,7 @@
 ghost use Rattle.std.specs.Prelude.{refl};
 ghost use Rattle.std.proofs.Common.{rules};
 ghost use Rattle.offers.specs.Tables.{package_layout, band_layout, pair_layout, exclusion_layout, limit_layout};
-ghost use Rattle.offers.specs.LawfulKinds.{package_known, package_laws, band_laws, pair_laws, exclusion_laws, limit_laws};
+ghost use Rattle.offers.specs.Laws.Kinds.{package_known, package_laws, band_laws, pair_laws, exclusion_laws, limit_laws};
 
 use crate::records::{Band, Exclusion, Limit, Package, Pair, Record, Sort};
 use crate::words::{first_outside, number_at, put, within};

@@ -1,4 +1,4 @@
--- The ranges of the price rules' own numbers, and their refusal. Assumes nothing.
+-- The ranges of the price rules' own numbers, and their refusal.
 use Rattle.std.specs.Prelude.{◌≡◌, ℕ, Bool, true, false, ◌&&◌, List, ℤ, pos, int_le, Ok, Err, Result, neg_ℤ}
 use Rattle.std.specs.List.{list_all}
 use Rattle.offers.specs.declared.refusals.Code.TheVariants.{FieldOutside}

@@ -1,4 +1,4 @@
--- Prices in pesos, and what each price rule means. Assumes nothing.
+-- Prices in pesos, and what each price rule means.
 use Rattle.std.specs.Prelude.{ℕ, suc, ◌+◌, ◌-◌, ◌*◌, ◌/◌, ◌%◌, ◌&&◌, List, ℤ, pos, negsuc, ◌+ℤ◌, ◌*ℤ◌, neg_ℤ, ◌≤ℤ◌, Ok, Err, Result, ◌==◌, int_le, slice_index_or, if◌then◌else◌}
 use Rattle.offers.specs.declared.records.Package.{Package}
 use Rattle.pricing.specs.declared.numbers.Rates.{Rates}

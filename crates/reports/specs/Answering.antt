@@ -1,4 +1,4 @@
--- What answers the bytes of a sheet. Nothing here searches. Assumes nothing.
+-- What answers the bytes of a sheet. Nothing here searches.
 use Rattle.std.specs.Prelude.{◌≡◌, ℕ, ◌≤◌, Bool, true, false, List, length, take, Ok, Err, Result, Option, IfSome}
 use Rattle.std.specs.Io.KnownBytes.{Appends}
 use Rattle.offers.specs.declared.refusals.Refusal.{Refusal}

@@ -1,4 +1,4 @@
--- What a sheet is cleared to. Assumes nothing.
+-- What a sheet is cleared to.
 use Rattle.std.specs.Prelude.{◌≡◌, ℕ, List, [], ◌∷◌, Some, None, Option, Ok, Err, Result}
 use Rattle.offers.specs.declared.refusals.Refusal.{Refusal}
 use Rattle.pricing.specs.Prices.{filed_price}

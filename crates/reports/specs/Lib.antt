@@ -3,4 +3,4 @@ pub mod Text
 pub mod Cleared
 pub mod Answering
 pub mod Searching
-pub mod Searches
+pub mod Laws

@@ -1,4 +1,4 @@
--- What is reported of an award. Assumes nothing.
+-- What is reported of an award.
 use Rattle.std.specs.Prelude.{◌≡◌, ℕ, ◌-◌, List, [], ◌∷◌, map, length, vec_items, slice_index_or}
 use Rattle.clearing.specs.declared.dockets.OpenBand.{OpenBand}
 use Rattle.clearing.specs.Choices.{taken}

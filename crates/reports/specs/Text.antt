@@ -1,4 +1,4 @@
--- What the program prints, byte by byte. Assumes nothing.
+-- What the program prints, byte by byte.
 use Rattle.std.specs.Prelude.{ℕ, List, [], ◌∷◌, ◌++◌, map, length, ℤ, vec_items, codes, decimal}
 use Rattle.std.specs.List.{flat_map}
 use Rattle.std.specs.Fmt.{signed_decimal}

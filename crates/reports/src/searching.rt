@@ -1,6 +1,6 @@
 //! By which bounding rules the round of a sheet is searched. The award is the same by any.
 ghost use Rattle.reports.specs.Searching.{searching};
-ghost use Rattle.reports.specs.Searches.{searching-sound};
+ghost use Rattle.reports.specs.Laws.Searching.{searching-sound};
 
 use bounds::{AllIn, Block, BoundingRule, Joined, Limits, Shares, Tangent};
 use clearing::Docket;

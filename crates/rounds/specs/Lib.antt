@@ -4,3 +4,4 @@ pub mod Views
 pub mod Requests
 pub mod Replays
 pub mod Rules
+pub mod Laws

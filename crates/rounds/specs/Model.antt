@@ -1,4 +1,4 @@
--- A plain round, and what each call does to it: fed only the calls' arguments and the rules' meanings. Assumes nothing.
+-- A plain round, and what each call does to it: fed only the calls' arguments and the rules' meanings.
 use Rattle.std.specs.Prelude.{ℕ, Bool, true, false, ◌&&◌, ◌||◌, List, [], ◌∷◌, ◌++◌, length, drop, ℤ, Ok, Err, Result, is_ok, nat_le, if◌then◌else◌}
 use Rattle.offers.specs.declared.kinds.Kind.{Kind}
 use Rattle.offers.specs.declared.memory.Offer.{Offer}

@@ -1,4 +1,4 @@
--- What is promised of a round, in words of the subject. Nothing here says how a search goes. Assumes nothing.
+-- What is promised of a round, in words of the subject. Nothing here says how a search goes.
 use Rattle.std.specs.Prelude.{◌≡◌, ℕ, ◌+◌, ◌-◌, ◌<◌, ◌≤◌, Bool, true, false, ◌&&◌, List, [], ◌∷◌, ◌++◌, map, length, Ok, Err, Some, None, Option, ◌==◌, slice_index_or, if◌then◌else◌}
 use Rattle.offers.specs.declared.kinds.Kind.{Kind}
 use Rattle.offers.specs.declared.kinds.Kind.TheVariants as kind

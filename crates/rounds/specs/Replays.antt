@@ -1,4 +1,4 @@
--- What a whole run of requests comes to. Assumes nothing.
+-- What a whole run of requests comes to.
 use Rattle.std.specs.Prelude.{◌≡◌, List, map, vec_items}
 use Rattle.offers.specs.Memory.{entries_in}
 use Rattle.search.specs.Search.{standing}

@@ -1,4 +1,4 @@
--- Requests and replies as calls and answers. Assumes nothing.
+-- Requests and replies as calls and answers.
 use Rattle.std.specs.Prelude.{vec_items}
 use Rattle.bounds.specs.Blocks.{Answers}
 use Rattle.pricing.specs.Prices.{Meaning}

@@ -1,4 +1,4 @@
--- What one of two rules means. Assumes nothing.
+-- What one of two rules means.
 use Rattle.std.specs.Prelude.{ℕ}
 use Rattle.offers.specs.declared.records.Package.{Package}
 use Rattle.pricing.specs.Prices.{Bounded, Meaning}
@@ -10,10 +10,6 @@ abbrev pub either_answers : {P Q : Type 0} → (P → Answers) → (Q → Answer
 either_answers p q (First rule) = p rule
 either_answers p q (Second rule) = q rule
 
-pub either_sound : {P Q : Type 0} (p : P → Answers) (q : Q → Answers) → ((s : P) → SoundRule (p s)) → ((s : Q) → SoundRule (q s)) → (s : OneOf P Q) → SoundRule (either_answers p q s)
-either_sound p q sp sq (First rule) = sp rule
-either_sound p q sp sq (Second rule) = sq rule
-
 abbrev pub either_meaning : {P Q : Type 0} → (P → Meaning) → (Q → Meaning) → OneOf P Q → Meaning
 either_meaning p q (First rule) = p rule
 either_meaning p q (Second rule) = q rule
@@ -21,7 +17,3 @@ either_meaning p q (Second rule) = q rule
 abbrev pub either_level : {P Q : Type 0} → (P → ℕ) → (Q → ℕ) → OneOf P Q → ℕ
 either_level p q (First rule) = p rule
 either_level p q (Second rule) = q rule
-
-pub either_bounded : {P Q : Type 0} (p : P → Meaning) (q : Q → Meaning) → ((s : P) (x : Package) → Bounded (p s x)) → ((s : Q) (x : Package) → Bounded (q s x)) → (s : OneOf P Q) (x : Package) → Bounded (either_meaning p q s x)
-either_bounded p q bp bq (First rule) = bp rule
-either_bounded p q bp bq (Second rule) = bq rule

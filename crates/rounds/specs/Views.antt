@@ -1,4 +1,4 @@
--- What the rounds that callers hold are as plain rounds, and what calls give back. Assumes nothing.
+-- What the rounds that callers hold are as plain rounds, and what calls give back.
 use Rattle.std.specs.Prelude.{◌<◌, ◌≤◌, ◌≡◌, ℕ, ℤ, List, ◌∷◌, [], ◌++◌, replicate, Ok, Err, Result}
 use Rattle.std.specs.List.{AllByRecursion as Every}
 use Rattle.offers.specs.declared.refusals.Refusal.{Refusal}

@@ -1,5 +1,6 @@
 //! Different rules in one run.
-ghost use Rattle.rounds.specs.Rules.{either_answers, either_sound, either_meaning, either_level, either_bounded};
+ghost use Rattle.rounds.specs.Laws.Rules.{either_sound, either_bounded};
+ghost use Rattle.rounds.specs.Rules.{either_answers, either_meaning, either_level};
 
 use bounds::{Block, BoundingRule};
 use clearing::Docket;

@@ -5,7 +5,7 @@ use Rattle.std.proofs.lemmas.Bool.{cond_both, cond-true, cond-false, ltb-true, l
 use Rattle.clearing.specs.Judging.{worth_of}
 use Rattle.clearing.specs.Lawful.{View, choices}
 use Rattle.bounds.specs.Blocks.{Answers}
-use Rattle.bounds.specs.Gains.{divides_less}
+use Rattle.bounds.specs.Laws.OneByOne.{divides_less}
 use Rattle.search.specs.Search.{Standing, Placed, start_position, next_block, can_skip, after_settling, after_halving, after_trial, after_step, finished, after_steps}
 use Rattle.search.proofs.Zeros.{trailing_divides, trailing_small, power_room, power-smaller}
 

@@ -1,4 +1,4 @@
--- The search: what holds wherever it stands, and how a step moves it. Assumes nothing.
+-- The search: what holds wherever it stands, and how a step moves it.
 use Rattle.std.specs.Prelude.{◌≡◌, ℕ, zero, suc, ◌+◌, ◌-◌, ◌*◌, ◌^◌, ◌<◌, ◌≤◌, Bool, true, ℤ, pos, Some, None, Option, ◌==◌, int_le, nat_lt, if◌then◌else◌}
 use Rattle.std.specs.Int.Count.{count_trailing_zeros}
 use Rattle.std.specs.Int.Signed.{lt_z}

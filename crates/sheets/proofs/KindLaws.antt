@@ -5,7 +5,7 @@ use Rattle.offers.specs.declared.kinds.Kind.{Kind}
 use Rattle.offers.specs.declared.kinds.Kind.TheVariants as kind
 use Rattle.offers.specs.Layouts.{LayoutLaws}
 use Rattle.offers.specs.Memory.{Entries, RecordOf, layout_of, entries_of, with_entries}
-use Rattle.offers.specs.LawfulKinds.{package_laws, band_laws, pair_laws, exclusion_laws, limit_laws}
+use Rattle.offers.specs.Laws.Kinds.{package_laws, band_laws, pair_laws, exclusion_laws, limit_laws}
 use Rattle.offers.proofs.MemoryLaws.{lifted-each}
 use Rattle.offers.specs.Marks.{kind_of_tag}
 

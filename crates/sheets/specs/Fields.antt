@@ -1,4 +1,4 @@
--- One field of a sheet: its header, the checks that it has to pass, and what it makes of the entries of its kind. Assumes nothing.
+-- One field of a sheet: its header, the checks that it has to pass, and what it makes of the entries of its kind.
 use Rattle.std.specs.Prelude.{ℕ, ◌+◌, ◌-◌, ◌*◌, Bool, true, false, ◌&&◌, ◌||◌, List, [], ◌∷◌, length, take, drop, Some, None, Ok, Err, Option, Result, ◌==◌, nat_le, nat_lt, slice_index, slice_set, if◌then◌else◌}
 use Rattle.std.specs.Str.{bytes_eq}
 use Rattle.offers.specs.declared.refusals.Code.{Code}

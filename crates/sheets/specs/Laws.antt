@@ -1,4 +1,4 @@
--- What sheets are for, in words of the subject: what is written reads back, a withdrawal is never lost, two rounds come to agree. Assumes nothing.
+-- What sheets are for, in words of the subject: what is written reads back, a withdrawal is never lost, two rounds come to agree.
 use Rattle.std.specs.Prelude.{◌≡◌, ℕ, zero, suc, ◌+◌, Bool, true, false, ◌&&◌, ◌||◌, List, [], ◌∷◌, length, Ok, Err, Result, ◌==◌, slice_index_or}
 use Rattle.offers.specs.declared.refusals.Refusal.{Refusal}
 use Rattle.offers.specs.declared.registers.Entry.{Entry}

@@ -1,4 +1,4 @@
--- What a catch-up makes of entries and bytes. Assumes nothing.
+-- What a catch-up makes of entries and bytes.
 use Rattle.std.specs.Prelude.{ℕ, zero, suc, ◌+◌, List, [], ◌∷◌, length, Ok, Err, Result}
 use Rattle.offers.specs.declared.refusals.Refusal.{Refusal}
 use Rattle.offers.specs.Registers.{Outcome}

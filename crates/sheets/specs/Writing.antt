@@ -1,4 +1,4 @@
--- The sheet of a round's entries. Assumes nothing.
+-- The sheet of a round's entries.
 use Rattle.offers.specs.Refusals.{code_only}
 use Rattle.std.specs.Prelude.{ℕ, ◌+◌, List, [], ◌∷◌, ◌++◌, length, drop, Ok, Err, Result, nat_le, if◌then◌else◌}
 use Rattle.offers.specs.declared.refusals.Code.TheVariants.{NoRoom}

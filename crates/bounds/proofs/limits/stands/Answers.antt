@@ -13,7 +13,7 @@ third-decides a b c r one two three = rw (one, two) three
 pub returns-then-exclusions_kept : goal.returns-then-exclusions_kept
 returns-then-exclusions_kept c T W counted others =
     let d = c.args.docket.now in
-    let t = c.args.taken.now in
+    let t = c.args.tally.now in
     let zones = zones-tested T t counted c.zones_kept.result (vec_items d.limits.list) d.limits_fit c.zones_kept.ensures in
     let pairs = pairs-tested T t counted c.pairs_kept.result W c.args.possible.now others (vec_items d.pairs.list) d.pairs_fit c.pairs_kept.ensures in
     elim c.if-pairs_kept.branch [
@@ -26,7 +26,7 @@ returns-then-exclusions_kept c T W counted others =
 pub returns-else-exclusions_kept : goal.returns-else-exclusions_kept
 returns-else-exclusions_kept c T W counted others =
     let d = c.args.docket.now in
-    let t = c.args.taken.now in
+    let t = c.args.tally.now in
     let pairs = pairs-tested T t counted c.pairs_kept.result W c.args.possible.now others (vec_items d.pairs.list) d.pairs_fit c.pairs_kept.ensures in
     let fails : (pairs_kept (vec_items d.pairs.list) T W && (exclusions_kept (vec_items d.exclusions.list) T && zones_kept (vec_items d.limits.list) T)) ≡ false =
     elim c.if-pairs_kept.branch [

@@ -8,7 +8,7 @@ use Rattle.clearing.proofs.Held.{no_exclusion, exclusion_held}
 use Rattle.clearing.proofs.Rows.{getD_row, row_same, row-set}
 use Rattle.bounds.specs.Live.{head}
 use Rattle.bounds.proofs.live.heads.Goals as goal
-use Rattle.bounds.proofs.live.heads.Goals.{then-taken-exclusion, else-taken-exclusion}
+use Rattle.bounds.proofs.live.heads.Goals.{then-tally-exclusion, else-tally-exclusion}
 
 -- what one exclusion counts in a group
 abbrev one_head : List Bool → ℕ → Exclusion → ℕ
@@ -50,17 +50,17 @@ module _ (takes : List Bool) (xs : List Exclusion) (i : ℕ) (inside : i < lengt
 
 pub loop-exclusion-preserved : goal.loop-exclusion-preserved
 loop-exclusion-preserved c =
-    let takes = c.args.taken.now.takes in
+    let takes = c.args.tally.now.takes in
     let xs = c.deref-exclusion-items.result.now in
     let i = c.loop-exclusion.exclusion-index in
     let inside = c.loop-exclusion-test.true in
     let e = get_or xs i no_exclusion in
     let r = exclusion_held c.args.docket.now i xs c.deref-exclusion-items.ensures.value inside in
-    elim c.if-taken-exclusion.branch [
-      | then-taken-exclusion w ↦
+    elim c.if-tally-exclusion.branch [
+      | then-tally-exclusion w ↦
           w.heads-is
           ∙ ap (set c.loop-exclusion.heads (e.group - 1)) w.max.ensures
           ∙ ap (λ hs. set hs (e.group - 1) (max (get_or hs (e.group - 1) 0) e.member)) c.loop-exclusion.invariant
-          ∙ head-there takes xs i inside r.group_least r.group w.if-taken-exclusion.true
-      | else-taken-exclusion w ↦ w.heads-is ∙ c.loop-exclusion.invariant ∙ head-same takes xs i inside w.if-taken-exclusion.false
+          ∙ head-there takes xs i inside r.group_least r.group w.if-tally-exclusion.true
+      | else-tally-exclusion w ↦ w.heads-is ∙ c.loop-exclusion.invariant ∙ head-same takes xs i inside w.if-tally-exclusion.false
     ]

@@ -5,4 +5,4 @@ use Rattle.bounds.specs.Live.{head}
 use Rattle.bounds.proofs.live.heads.Given as goal
 
 abbrev pub invariant-loop-exclusion : goal.invariant-loop-exclusion
-invariant-loop-exclusion l = l.heads ≡ row (head l.taken.takes (take l.exclusion-index l.exclusion-items)) 1 16
+invariant-loop-exclusion l = l.heads ≡ row (head l.tally.takes (take l.exclusion-index l.exclusion-items)) 1 16

@@ -19,7 +19,7 @@ use Rattle.clearing.proofs.Tallying.{Bounded}
 use Rattle.bounds.specs.Blocks.{span}
 use Rattle.bounds.specs.Rules.{fixed, possible, free_ones, joins}
 use Rattle.bounds.specs.Live.{cleared, unopposed, tightest, room}
-use Rattle.bounds.specs.Splits.{taken_none}
+use Rattle.bounds.specs.Laws.Splits.{taken_none}
 use Rattle.bounds.proofs.Digits.{taken_with, kept-yes, kept-no}
 use Rattle.bounds.proofs.Joins.{joins-passed, none-joins}
 use Rattle.bounds.proofs.live.live_choice.Goals as goal

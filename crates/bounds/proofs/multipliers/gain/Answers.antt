@@ -7,14 +7,14 @@ use Rattle.bounds.proofs.multipliers.gain.Goals as goal
 pub returns-clause-value : goal.returns-clause-value
 returns-clause-value c =
     let r = priced_ranges c.args.priced.now c.requires in
-    omega (arith, ints, r.price_least, r.price, c.worth.ensures.value, c.worth.ensures.bound)
+    omega (arith, ints, r.price_least, r.price, c.value_at.ensures.value, c.value_at.ensures.bound)
 
 pub returns-clause-low : goal.returns-clause-low
 returns-clause-low c =
     let r = priced_ranges c.args.priced.now c.requires in
-    omega (arith, ints, r.price_least, r.price, c.worth.ensures.bound)
+    omega (arith, ints, r.price_least, r.price, c.value_at.ensures.bound)
 
 pub returns-clause-high : goal.returns-clause-high
 returns-clause-high c =
     let r = priced_ranges c.args.priced.now c.requires in
-    omega (arith, ints, r.price_least, r.price, c.worth.ensures.bound)
+    omega (arith, ints, r.price_least, r.price, c.value_at.ensures.bound)

@@ -13,7 +13,7 @@ use Rattle.clearing.specs.Choices.{taken}
 use Rattle.clearing.proofs.Held.{no_package}
 use Rattle.clearing.proofs.Ranged.{ranged_docket}
 use Rattle.bounds.specs.Multipliers.{Multipliers, gain, gainful}
-use Rattle.bounds.specs.Splits.{taken_none}
+use Rattle.bounds.specs.Laws.Splits.{taken_none}
 use Rattle.bounds.proofs.Digits.{taken_with, taken_next, halved_more}
 use Rattle.bounds.proofs.multipliers.gainful_choice.Goals as goal
 use Rattle.bounds.proofs.multipliers.gainful_choice.Goals.{then-digits-eq1+then-gain-gt0, else-digits-eq1, else-digits-eq1-via-then-digits-eq1+else-gain-gt0, else-digits-eq1-via-else-digits-eq1}

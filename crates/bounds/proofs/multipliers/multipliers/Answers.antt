@@ -62,8 +62,8 @@ pick-few test one other few less = cond_both test one other (λ n. n ≤ 1000000
 
 module _ (bands : List OpenBand) (ranges : Every OpenRanges bands) (fixed free : List PricedPackage) where
   -- nor is what bands pay
-  beginning_few : Within (widest bands fixed free)
-  beginning_few = record {
+  widest_few : Within (widest bands fixed free)
+  widest_few = record {
     low = row_priced (λ m. price_at bands m (supply m fixed + supply m free)) (λ m. price-most m _ bands ranges);
     high = row_priced (λ m. price_at bands m (supply m fixed)) (λ m. price-most m _ bands ranges);
   }
@@ -81,11 +81,11 @@ module _ (bands : List OpenBand) (ranges : Every OpenRanges bands) (fixed free :
   -- nor any number of turns
   narrowing_few : (times : ℕ) → Within (narrowing times bands fixed free (widest bands fixed free))
   unfolding narrowing
-  narrowing_few zero = beginning_few
+  narrowing_few zero = widest_few
   narrowing_few (suc times) = narrowed_few (narrowing times bands fixed free (widest bands fixed free)) (narrowing_few times)
 
 pub loop-turn-init : goal.loop-turn-init
-loop-turn-init c = c.beginning-between.ensures ∙ sym (narrowing-none _ _ _ _)
+loop-turn-init c = c.widest-between.ensures ∙ sym (narrowing-none _ _ _ _)
 
 pub loop-turn-preserved : goal.loop-turn-preserved
 loop-turn-preserved c =

@@ -2,7 +2,7 @@
 use Rattle.std.proofs.Common.{◌≡◌, ◌+◌, ◌-◌, ap, ◌∙◌, drop, div-one, arith}
 use Rattle.std.proofs.lemmas.List.{take_all}
 use Rattle.offers.specs.Fields.{high_first}
-use Rattle.offers.specs.HighFirst.{written, length-high_first}
+use Rattle.offers.specs.Laws.HighFirst.{written, length-high_first}
 use Rattle.offers.proofs.Bytes.{drop-high_first}
 use Rattle.offers.proofs.words.put.Goals as goal
 

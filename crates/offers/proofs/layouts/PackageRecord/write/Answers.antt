@@ -1,6 +1,6 @@
 -- `write` of a package: field by field, until the slice is full.
 use Rattle.std.proofs.Common.{arith}
-use Rattle.offers.specs.HighFirst.{filled}
+use Rattle.offers.specs.Laws.HighFirst.{filled}
 use Rattle.offers.proofs.layouts.PackageRecord.write.Goals as goal
 
 pub returns : goal.returns

@@ -7,7 +7,7 @@ use Rattle.offers.specs.declared.records.Package.{Package}
 use Rattle.offers.specs.Fields.{within}
 use Rattle.offers.specs.Layouts.{LayoutLaws}
 use Rattle.offers.specs.Tables.{package_layout, band_layout, pair_layout, exclusion_layout, limit_layout}
-use Rattle.offers.specs.LawfulLayouts.{layout_laws}
+use Rattle.offers.specs.Laws.Layouts.{layout_laws}
 
 -- a value in range has room where the greatest has
 fits : (least most room n : ℕ) → most < room → within least most n ≡ true → n < room

@@ -4,7 +4,7 @@ use Rattle.std.proofs.Common.{sym, ap, ◌∙◌, mod-eq_of_lt, arith}
 use Rattle.std.proofs.lemmas.List.{length-append, take_at, drop_at}
 use Rattle.offers.specs.Fields.{Field, high_first, widths, bytes_by, values_by, first_false, allowed_by}
 use Rattle.offers.specs.Layouts.{Layout, LayoutLaws, bytes_of, read_from, fault_of}
-use Rattle.offers.specs.HighFirst.{length-high_first, number-high_first}
+use Rattle.offers.specs.Laws.HighFirst.{length-high_first, number-high_first}
 
 -- the values of a record's fields
 abbrev pub values_of : {R : Type 0} → List (Field R) → R → List ℕ

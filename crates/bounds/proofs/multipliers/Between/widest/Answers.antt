@@ -2,7 +2,7 @@
 use Rattle.std.proofs.Common.{sym, subst}
 use Rattle.clearing.proofs.Takings.{taken-bounded}
 use Rattle.bounds.proofs.Supplies.{Few}
-use Rattle.bounds.proofs.multipliers.Between.beginning.Goals as goal
+use Rattle.bounds.proofs.multipliers.Between.widest.Goals as goal
 
 pub together-all-requires-clause-one : goal.together-all-requires-clause-one
 together-all-requires-clause-one c = subst Few (sym c.requires) (taken-bounded c.args.docket.now c.args.block.first).supply

@@ -1,7 +1,7 @@
 -- `worth`: a package in range supplies so little that any multipliers leave room in 64 bits.
 use Rattle.std.proofs.Common.{◌≤◌, ◌-◌, get_or, mul-le-mul, arith}
 use Rattle.clearing.proofs.Fits.{package_ranges}
-use Rattle.bounds.proofs.multipliers.worth.Goals as goal
+use Rattle.bounds.proofs.multipliers.value_at.Goals as goal
 
 pub returns-clause-bound : goal.returns-clause-bound
 returns-clause-bound c =

@@ -1,15 +1,26 @@
--- What a block's choices cost at least: the taken packages their price, the free ones what is below 0 of theirs.
-use Rattle.std.specs.Prelude.{◌≡◌, ℕ, zero, suc, ◌+◌, ◌-◌, ◌*◌, ◌/◌, ◌%◌, ◌^◌, ◌<◌, Bool, true, false, cond, List, [], ◌∷◌, take, ℤ, pos, ◌+ℤ◌, ◌≤ℤ◌, ◌==◌, refl}
-use Rattle.std.proofs.Common.{sym, ap, ap₂, ◌∙◌, arith}
+-- Why the all-in rule is sound: a choice of a block earns no more than its last with filled sales, and costs no less than is counted.
+use Rattle.std.specs.Prelude.{◌≡◌, ℕ, ◌*◌, ◌≤◌, true, ◌&&◌, List, ℤ, ◌≤ℤ◌, Some, None, Option, ◌==◌, cond, zero, suc, ◌+◌, ◌-◌, ◌/◌, ◌%◌, ◌^◌, ◌<◌, Bool, false, [], ◌∷◌, take, pos, ◌+ℤ◌, refl}
+use Rattle.std.proofs.Common.{le_trans, mul-le-mul_left, arith, sym, ap, ap₂, ◌∙◌}
+use Rattle.std.proofs.ByRecursion.{All-weaker}
+use Rattle.std.proofs.lemmas.Int.{ints, clamps}
+use Rattle.std.proofs.lemmas.Bool.{and_from, both_ways, cond_both}
+use Rattle.clearing.specs.declared.dockets.PricedPackage.{PricedPackage}
+use Rattle.clearing.specs.Choices.{taken, supplied, supply, dated, cost}
+use Rattle.clearing.specs.Judging.{pairs_kept, exclusions_kept, zones_kept, dates_kept}
+use Rattle.clearing.specs.Lawful.{View, sold, percentage, Lawful, surplus, filled_sales}
+use Rattle.clearing.specs.Ranges.{package_fits}
+use Rattle.clearing.proofs.Filling.{ranged as ranges_of, market-most, best-filled, parts_of_one}
+use Rattle.clearing.proofs.Incomes.{income-few}
+use Rattle.clearing.proofs.Judged.{pairs_tell, groups_tell, zones_tell, dates_tell}
+use Rattle.clearing.proofs.Ranged.{Ranged}
+use Rattle.clearing.proofs.RowRules.{all_both}
+use Rattle.clearing.proofs.Takings.{taken-fits, taken-few}
+use Rattle.clearing.proofs.Tallying.{cost_between}
+use Rattle.bounds.specs.Blocks.{Span, InDocket, InBlock, Claims}
+use Rattle.bounds.specs.Rules.{last_of, fixed, possible, ceiling, always, all_in, limits_kept, shares_kept, smaller, free_ones, below_zero}
+use Rattle.bounds.specs.Laws.Parts.{Part, first_part, last_part, lowest, fixed_digits, first_is, free_digits, choice_is}
 use Rattle.std.proofs.Math.Nat.{pow-succ'}
 use Rattle.std.specs.Int.{int_min}
-use Rattle.std.proofs.lemmas.Int.{ints, clamps}
-use Rattle.clearing.specs.declared.dockets.PricedPackage.{PricedPackage}
-use Rattle.clearing.specs.Choices.{taken, cost}
-use Rattle.clearing.specs.Lawful.{View}
-use Rattle.bounds.specs.Blocks.{Span, InDocket, InBlock}
-use Rattle.bounds.specs.Rules.{fixed, free_ones, below_zero}
-use Rattle.bounds.specs.Parts.{lowest, fixed_digits, first_is, free_digits, choice_is}
 
 -- a price, if its package is taken
 abbrev pub price_if : Bool → ℤ → ℤ
@@ -68,3 +79,12 @@ module _ (v : View) (b : Span) (block : InDocket v b) where
   cost-least choice inside =
       let same = least-is b.free (fixed_digits v b block) (choice - b.first) (free_digits v b block choice inside) v.packages in
       omega (arith, ints, rw (choice_is v b block choice inside, first_is v b block) at same, least-most b.free choice v.packages)
+
+module _ (v : View) (ranged : Ranged v) (b : Span) (block : InDocket v b) where
+  -- a choice of a block earns no more than the last with filled sales, and costs no less than is counted
+  pub all_in-sound : Claims v b (all_in v b)
+  all_in-sound choice sales inside lawful =
+      let more = last_part v b block choice inside in
+      let best = best-filled v (last_of b) ranged.order ranged.bands in
+      let income = best.most 1 (omega arith) sales (parts_of_one v.bands sales lawful.within_quantities) (λ m. omega (arith, le_trans (lawful.within_supply m) (more.less _))) in
+      omega (arith, ints, income, cost-least v b block choice inside)

@@ -24,7 +24,7 @@ use Rattle.clearing.proofs.Totals.{total-append}
 use Rattle.bounds.specs.Blocks.{Span, InDocket, Claims}
 use Rattle.bounds.specs.Multipliers.{Multipliers, unit_worth, value_at, multipliers}
 use Rattle.bounds.specs.Rules.{fixed, possible, free_ones, joins, live_ones, sold_above, gains_above, tangent_by, tangent}
-use Rattle.bounds.specs.Splits.{taken-kept, each-next, choice-splits, taken-live}
+use Rattle.bounds.specs.Laws.Splits.{taken-kept, each-next, choice-splits, taken-live}
 
 -- one amount at a market's place is worth that many of its units
 worth_one : (l : Multipliers) (market price amount : ℕ) → 1 ≤ market → market ≤ 5

@@ -15,7 +15,7 @@ use Rattle.clearing.proofs.Held.{no_package}
 use Rattle.clearing.proofs.Ranged.{Ranged, filled-most}
 use Rattle.bounds.specs.Blocks.{Span, InDocket, Claims}
 use Rattle.bounds.specs.Rules.{unlimited, lone_gains, one_by_one}
-use Rattle.bounds.specs.Parts.{lowest, first_part}
+use Rattle.bounds.specs.Laws.Parts.{lowest, first_part}
 
 -- Packages with one more among them: what it counts and costs is added, and its number.
 pub record More (p : PricedPackage) (xs ys : List PricedPackage) : Type 0 where
