@@ -1,8 +1,8 @@
 -- The rounds worked out.
 use Rattle.std.proofs.Common.{refl, rules}
 use lib.Count.{count_trailing_zeros}
-use Rattle.examples.proofs.Cleared.{clears}
-use Rattle.examples.proofs.twelve_rounds.Goals as goal
+use Rattle.acceptance.proofs.Cleared.{clears}
+use Rattle.acceptance.proofs.twelve_rounds.Goals as goal
 
 pub returns : goal.returns
 unfolding count_trailing_zeros

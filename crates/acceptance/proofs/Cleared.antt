@@ -15,7 +15,7 @@ use Rattle.bounds.specs.Rules.{limits_and_all_in}
 use Rattle.rounds.specs.Model.{Call, State, IsOpen, IsClosed, IsAwarded, Model, after}
 use Rattle.rounds.specs.Promises.{LawfulCall, PromiseIn}
 use Rattle.rounds.proofs.Runs.{promised}
-use Rattle.examples.specs.Answered.{cleared, leader_in, BestIn, Clearing, WorksOut, Clears}
+use Rattle.acceptance.specs.Answered.{cleared, leader_in, BestIn, Clearing, WorksOut, Clears}
 
 filed_bounded : (p : Package) → Bounded (filed_price p)
 filed_bounded p = search rules

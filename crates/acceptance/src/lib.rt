@@ -1,9 +1,9 @@
-//! What a round accepts, refuses, prices and awards, shown by examples.
+//! What a round accepts, refuses, prices and awards, tested over all layers; and the worked rounds, proved.
 #![tactic(auto)]
 
 ghost use Rattle.std.specs.Prelude.{◌≡◌};
 ghost use Rattle.pricing.specs.Prices.{stack_price};
-ghost use Rattle.examples.specs.WorkedRounds.{TwelveRounds};
+ghost use Rattle.acceptance.specs.WorkedRounds.{TwelveRounds};
 
 #[cfg(test)]
 mod awards;

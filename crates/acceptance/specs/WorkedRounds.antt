@@ -10,8 +10,8 @@ use Rattle.pricing.specs.Prices.{filed_price, stack_price}
 use Rattle.bounds.specs.Blocks.{Answers}
 use Rattle.bounds.specs.Rules.{always, all_in}
 use Rattle.rounds.specs.Model.{Call, File, Withdraw, CatchUp, Close, Search, ReadAward, Done, Found, Awarded, NotTaken, answers}
-use Rattle.examples.specs.Answered.{done, empty_row, row_of, open_with, Leaves, Clears}
-use Rattle.examples.specs.WorkedOffers.{band, file_pair, file_exclusion, file_limit, in_dollars, four_filed, four_unqualified, first_qualified, third_before, ten_for, sheet_with_second_for, two_packages_sheet}
+use Rattle.acceptance.specs.Answered.{done, empty_row, row_of, open_with, Leaves, Clears}
+use Rattle.acceptance.specs.WorkedOffers.{band, file_pair, file_exclusion, file_limit, in_dollars, four_filed, four_unqualified, first_qualified, third_before, ten_for, sheet_with_second_for, two_packages_sheet}
 
 -- the two-package round from its sheet, searched under a rule for so many steps, and its award read
 abbrev pub two_packages_searched : Answers → ℕ → List Call
