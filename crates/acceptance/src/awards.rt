@@ -1,77 +1,132 @@
 //! Awards of other rounds than the worked ones: each rule of lawfulness that those leave out, and other bounding rules.
 use crate::fixtures::{
-    Told, band, check_answers, check_award, excluded, filing, four_packages, limit, needs, package,
-    row, six_bands, unqualified,
+    Clearing, Told, band, check_answers, check_clearing, excluded, filing, four_packages, limit,
+    needs, package, row, six_bands, unqualified,
 };
 use bounds::{AllIn, BoundingRule, Ceiling, Joined, Limits, OneByOne, Shares, Tangent};
-use offers::{Kind, Offer, Package};
+use offers::{Date, Kind, Limit, Offer, Package};
 use pricing::{Filed, Place, ZoneNumbers};
 use rounds::{OneOf, Request};
 use std::process::Abort;
 use std::test::*;
-
-// Package 1 has connection priority, so its nameplate does not count.
-#[test]
-fn qualified_not_counted(rt: HostRuntime) -> Result<(), Fail> {
-    let mut packages = four_packages().map(unqualified);
-    packages[0].unqualified = 0;
-    let requests = filing(rt.alloc(), &packages, &six_bands(), &[limit(1, 1, 49)])?;
-    let sales = [50, 20, 150_000, 60_000, 150_000, 60_000];
-    check_award(&rt, requests, 16, 7, 116_500_000, &sales)
-}
 
 // Packages 1 and 3 together are 210,000 MWh a year.
 #[test]
 fn export_within_210000(rt: HostRuntime) -> Result<(), Fail> {
     let packages = four_packages().map(unqualified);
     let requests = filing(rt.alloc(), &packages, &six_bands(), &[limit(2, 1, 210_000)])?;
-    let sales = [50, 20, 150_000, 60_000, 150_000, 60_000];
-    check_award(&rt, requests, 16, 7, 116_500_000, &sales)
+    let expected = Clearing {
+        choices: 16,
+        packages: &[1, 2, 3],
+        choice: 7,
+        surplus: 116_500_000,
+        sales: &[50, 20, 150_000, 60_000, 150_000, 60_000],
+    };
+    check_clearing(&rt, requests, &expected)
 }
 
 #[test]
 fn export_within_209999(rt: HostRuntime) -> Result<(), Fail> {
     let packages = four_packages().map(unqualified);
     let requests = filing(rt.alloc(), &packages, &six_bands(), &[limit(2, 1, 209_999)])?;
-    let sales = [50, 20, 120_000, 0, 120_000, 0];
-    check_award(&rt, requests, 16, 14, 103_000_000, &sales)
+    let expected = Clearing {
+        choices: 16,
+        packages: &[2, 3, 4],
+        choice: 14,
+        surplus: 103_000_000,
+        sales: &[50, 20, 120_000, 0, 120_000, 0],
+    };
+    check_clearing(&rt, requests, &expected)
 }
 
-// The four-package round with the third dated so, and its power or certificates limited to a percentage; of two percentages
-// the least binds.
+// The four-package round with the third dated so, under a limit and a percentage of 100 in its zone: of two percentages the
+// least binds.
 fn check_dated<R: Abort + AllocGlobal>(
     rt: &R,
-    date: u8,
-    zone: u8,
-    amount: u32,
-    choice: u64,
-    surplus: i64,
-    sales: &[u64],
+    date: Date,
+    least: Limit,
+    expected: &Clearing,
 ) -> Result<(), Fail> {
     let mut packages = four_packages();
-    packages[2].date = date;
-    let limits = [limit(3, zone, amount), limit(3, zone, 100)];
+    packages[2].date = date as u8;
+    let most = Limit {
+        amount: 100,
+        ..least
+    };
+    let limits = [Offer::Limit(least), Offer::Limit(most)];
     let requests = filing(rt.alloc(), &packages, &six_bands(), &limits)?;
-    check_award(rt, requests, 16, choice, surplus, sales)
+    check_clearing(rt, requests, expected)
+}
+
+const POWER_AFTER: u8 = 2;
+
+const CERTIFICATES_BEFORE: u8 = 3;
+
+const CERTIFICATES_AFTER: u8 = 4;
+
+fn percentage(zone: u8, amount: u32) -> Limit {
+    Limit {
+        sort: 3,
+        zone,
+        amount,
+    }
 }
 
 // Packages 1, 3 and 4 sell 80 MW and 240,000 certificates. The third's 20 MW are 25 per cent, its 90,000 certificates 37.5.
 #[test]
 fn percentages_kept(rt: HostRuntime) -> Result<(), Fail> {
-    let sales = [50, 30, 150_000, 90_000, 150_000, 90_000];
-    check_dated(&rt, 2, 2, 25, 13, 123_500_000, &sales)?;
-    check_dated(&rt, 1, 3, 38, 13, 123_500_000, &sales)?;
-    check_dated(&rt, 2, 4, 38, 13, 123_500_000, &sales)
+    let all_but_2 = Clearing {
+        choices: 16,
+        packages: &[1, 3, 4],
+        choice: 13,
+        surplus: 123_500_000,
+        sales: &[50, 30, 150_000, 90_000, 150_000, 90_000],
+    };
+    check_dated(&rt, Date::After, percentage(POWER_AFTER, 25), &all_but_2)?;
+    check_dated(
+        &rt,
+        Date::Before,
+        percentage(CERTIFICATES_BEFORE, 38),
+        &all_but_2,
+    )?;
+    check_dated(
+        &rt,
+        Date::After,
+        percentage(CERTIFICATES_AFTER, 38),
+        &all_but_2,
+    )
 }
 
 // All four sell more power, but no more certificates.
 #[test]
 fn percentages_broken(rt: HostRuntime) -> Result<(), Fail> {
-    let with_all = [50, 40, 150_000, 90_000, 150_000, 90_000];
-    check_dated(&rt, 2, 2, 24, 15, 118_500_000, &with_all)?;
-    let without = [50, 30, 150_000, 0, 150_000, 0];
-    check_dated(&rt, 1, 3, 37, 11, 87_500_000, &without)?;
-    check_dated(&rt, 2, 4, 37, 11, 87_500_000, &without)
+    let all = Clearing {
+        choices: 16,
+        packages: &[1, 2, 3, 4],
+        choice: 15,
+        surplus: 118_500_000,
+        sales: &[50, 40, 150_000, 90_000, 150_000, 90_000],
+    };
+    check_dated(&rt, Date::After, percentage(POWER_AFTER, 24), &all)?;
+    let all_but_3 = Clearing {
+        choices: 16,
+        packages: &[1, 2, 4],
+        choice: 11,
+        surplus: 87_500_000,
+        sales: &[50, 30, 150_000, 0, 150_000, 0],
+    };
+    check_dated(
+        &rt,
+        Date::Before,
+        percentage(CERTIFICATES_BEFORE, 37),
+        &all_but_3,
+    )?;
+    check_dated(
+        &rt,
+        Date::After,
+        percentage(CERTIFICATES_AFTER, 37),
+        &all_but_3,
+    )
 }
 
 // A percentage of power is of one zone: package 1 is all that zone 2 sells, and a quarter of what zones 2 and 3 sell.
@@ -90,7 +145,14 @@ fn power_zones_apart(rt: HostRuntime) -> Result<(), Fail> {
     ];
     let bands = [band(2, 10, 5), band(3, 40, 5)];
     let requests = filing(rt.alloc(), &packages, &bands, &[limit(3, 1, 25)])?;
-    check_award(&rt, requests, 4, 2, 150, &[0, 30])
+    let expected = Clearing {
+        choices: 4,
+        packages: &[2],
+        choice: 2,
+        surplus: 150,
+        sales: &[0, 30],
+    };
+    check_clearing(&rt, requests, &expected)
 }
 
 // Package 1 is a MW too much for interconnection zone 2, package 3 a MWh for export zone 3; zone 1 has room for the rest.
@@ -101,8 +163,14 @@ fn zones_of_limits_apart(rt: HostRuntime) -> Result<(), Fail> {
     packages[2].export_zone = 3;
     let limits = [limit(1, 2, 29), limit(2, 3, 89_999), limit(1, 1, 50)];
     let requests = filing(rt.alloc(), &packages, &six_bands(), &limits)?;
-    let sales = [50, 0, 30_000, 0, 30_000, 0];
-    check_award(&rt, requests, 16, 10, 39_500_000, &sales)
+    let expected = Clearing {
+        choices: 16,
+        packages: &[2, 4],
+        choice: 10,
+        surplus: 39_500_000,
+        sales: &[50, 0, 30_000, 0, 30_000, 0],
+    };
+    check_clearing(&rt, requests, &expected)
 }
 
 // Package 1 needs 4, and 4 needs 2.
@@ -110,8 +178,14 @@ fn zones_of_limits_apart(rt: HostRuntime) -> Result<(), Fail> {
 fn chain_of_pairs(rt: HostRuntime) -> Result<(), Fail> {
     let pairs = [needs(1, 4), needs(4, 2)];
     let requests = filing(rt.alloc(), &four_packages(), &six_bands(), &pairs)?;
-    let sales = [50, 40, 150_000, 90_000, 150_000, 90_000];
-    check_award(&rt, requests, 16, 15, 118_500_000, &sales)
+    let expected = Clearing {
+        choices: 16,
+        packages: &[1, 2, 3, 4],
+        choice: 15,
+        surplus: 118_500_000,
+        sales: &[50, 40, 150_000, 90_000, 150_000, 90_000],
+    };
+    check_clearing(&rt, requests, &expected)
 }
 
 // A group with one member left forbids nothing, and a band that is withdrawn buys nothing.
@@ -121,8 +195,14 @@ fn withdrawn_rule_and_band(rt: HostRuntime) -> Result<(), Fail> {
     let mut requests = filing(rt.alloc(), &four_packages(), &six_bands(), &members)?;
     requests.push(Request::Withdraw(Kind::Exclusion, 2))?;
     requests.push(Request::Withdraw(Kind::Band, 2))?;
-    let sales = [50, 0, 150_000, 60_000, 150_000, 60_000];
-    check_award(&rt, requests, 16, 5, 111_500_000, &sales)
+    let expected = Clearing {
+        choices: 16,
+        packages: &[1, 3],
+        choice: 5,
+        surplus: 111_500_000,
+        sales: &[50, 0, 150_000, 60_000, 150_000, 60_000],
+    };
+    check_clearing(&rt, requests, &expected)
 }
 
 // The dearest band is filled first; of equal ones the lowest number, in whatever order they were filed.
@@ -135,7 +215,14 @@ fn bands_of_equal_price(rt: HostRuntime) -> Result<(), Fail> {
         Request::File(1, band(4, 4, 5)),
         Request::File(40, Offer::Package(package(0, 10, 0, 20))),
     ]?;
-    check_award(&rt, requests, 2, 1, 33, &[4, 3, 0, 0, 3])
+    let expected = Clearing {
+        choices: 2,
+        packages: &[40],
+        choice: 1,
+        surplus: 33,
+        sales: &[4, 3, 0, 0, 3],
+    };
+    check_clearing(&rt, requests, &expected)
 }
 
 const ALL_JOINED: Joined<Limits, Joined<AllIn, Joined<Shares, Tangent>>> = Joined(

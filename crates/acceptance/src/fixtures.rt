@@ -1,8 +1,9 @@
 //! What tests are written with: the offers of the worked rounds, requests to a round, and what they are answered.
 use bounds::{AllIn, BoundingRule, Joined, Limits};
-use offers::{Band, Code, Exclusion, Limit, Offer, Package, Pair, Refusal};
+use offers::{Band, Code, Exclusion, Limit, Offer, Offers, Package, Pair, Refusal};
 use pricing::{Currency, Filed, Place, PriceRule, Rates, ZoneNumbers};
-use rounds::{Moment, Reply, Request, Run, replay};
+use reports::Report;
+use rounds::{Moment, Reply, Request, Round, Run, replay};
 use std::alloc::{AllocError, Global};
 use std::process::Abort;
 use std::test::*;
@@ -240,23 +241,55 @@ fn check_row(rt: &impl Abort, run: &Run, sales: &[u64]) -> Result<(), Fail> {
     Ok(())
 }
 
-/// A round that is asked this, closed as filed and searched to its end under limits and all-in joined comes to so many
-/// choices, the choice that is awarded, its surplus in pesos, and what the bands are sold.
-pub fn check_award<R: Abort + AllocGlobal>(
+/// The report of a round that is awarded.
+pub fn report_of(heap: Global, round: &Round) -> Result<Report, Fail> {
+    match round {
+        Round::Awarded(awarded) => Ok(Report::new(heap, awarded)?),
+        _ => Err(Fail::new("not awarded")),
+    }
+}
+
+/// What a round that is searched to its end comes to.
+#[derive(Clone, Copy)]
+pub struct Clearing {
+    /// the choices of its docket
+    pub choices: u64,
+    /// the offer numbers of the packages taken
+    pub packages: &'static [u8],
+    /// the choice that takes them
+    pub choice: u64,
+    /// pesos
+    pub surplus: i64,
+    /// what the bands are sold, from band 1 on
+    pub sales: &'static [u64],
+}
+
+/// A round that is asked this, closed as filed and searched to its end under limits and all-in joined comes to that.
+pub fn check_clearing<R: Abort + AllocGlobal>(
     rt: &R,
     mut requests: Vec<UsualRequest>,
-    choices: u64,
-    choice: u64,
-    surplus: i64,
-    sales: &[u64],
+    expected: &Clearing,
 ) -> Result<(), Fail> {
     let heap = rt.alloc();
     requests.push(Request::Close(Filed))?;
     requests.push(Request::Search(LIMITS_AND_ALL_IN, 1_000_000))?;
     requests.push(Request::ReadAward(row(heap, 64)?))?;
     let last = [
-        Told::Found(choices, surplus),
-        Told::Awarded(choice, surplus),
+        Told::Found(expected.choices, expected.surplus),
+        Told::Awarded(expected.choice, expected.surplus),
     ];
-    check_sold(rt, requests, &last, sales)
+    let run = check_run(rt, requests, &last)?;
+    check_row(rt, &run, expected.sales)?;
+    let report = report_of(heap, &run.round)?;
+    assert_eq!(rt; report.packages.as_slice(), expected.packages);
+    Ok(())
+}
+
+/// The same entries stand under every number of every kind.
+pub fn check_same(rt: &impl Abort, offers: &Offers, expected: &Offers) {
+    assert!(rt; offers.packages.entries == expected.packages.entries);
+    assert!(rt; offers.bands.entries == expected.bands.entries);
+    assert!(rt; offers.pairs.entries == expected.pairs.entries);
+    assert!(rt; offers.exclusions.entries == expected.exclusions.entries);
+    assert!(rt; offers.limits.entries == expected.limits.entries);
 }

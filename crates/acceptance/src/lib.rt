@@ -24,6 +24,8 @@ mod sheet_fields;
 #[cfg(test)]
 mod texts;
 #[cfg(test)]
+mod variations;
+#[cfg(test)]
 mod worked_rounds;
 
 use offers::Package;

@@ -1,12 +1,12 @@
 //! What is printed of an award and of a refused sheet.
 use crate::fixtures::{
-    LIMITS_AND_ALL_IN, TWO_PACKAGES, UsualRequest, filing, four_packages, refusal, six_bands,
+    LIMITS_AND_ALL_IN, TWO_PACKAGES, UsualRequest, filing, four_packages, refusal, report_of,
+    six_bands,
 };
 use offers::Code;
 use pricing::Filed;
 use reports::{RefusedSheet, Report};
-use rounds::{OpenRound, Progress, Request, Round, finish, replay};
-use std::alloc::Global;
+use rounds::{OpenRound, Progress, Request, finish, replay};
 use std::process::Abort;
 use std::test::*;
 
@@ -21,14 +21,6 @@ fn check_text<R: Abort + AllocGlobal>(
     let report = report_of(rt.alloc(), &replay(rt.alloc(), requests, &mut ())?.round)?;
     assert_eq!(rt; report.to_string(rt.alloc())?.as_str(), lines);
     Ok(())
-}
-
-// The report of a round that is awarded.
-fn report_of(heap: Global, round: &Round) -> Result<Report, Fail> {
-    match round {
-        Round::Awarded(awarded) => Ok(Report::new(heap, awarded)?),
-        _ => Err(Fail::new("not awarded")),
-    }
 }
 
 #[test]

@@ -1,230 +1,338 @@
-//! The worked rounds, one test each, as calls on a round.
+//! The twelve worked rounds of docs/RULES.md, a test each. Each names the fields of `TwelveRounds` that say the same, proved.
 use crate::fixtures::{
-    TWO_PACKAGES, Told, UsualRequest, band, check_answers, check_award, check_run, check_sold,
-    excluded, filing, four_packages, limit, needs, package, refusal, row, six_bands, stack,
-    unqualified,
+    Clearing, TWO_PACKAGES, Told, UsualRequest, band, check_clearing, check_run, check_same,
+    excluded, filing, four_packages, limit, needs, package, six_bands, stack, unqualified,
 };
-use bounds::{AllIn, BoundingRule, Ceiling};
-use offers::{Band, Code, Entry, Kind, Offer, Package};
-use pricing::Filed;
-use rounds::Request;
+use bounds::{AllIn, Block, BoundingRule, CEILING, Ceiling};
+use clearing::{Docket, worth};
+use offers::{Code, Kind, Offer, Offers, Package, Refusal};
+use pricing::{Filed, PriceRule};
+use rounds::{Request, Stage, replay};
+use sheets::catch_up;
 use std::alloc::{AllocError, Global};
 use std::process::Abort;
 use std::test::*;
 
-// The four-package round with other offers, filed.
+// Where a search stands after a step.
+#[derive(Clone, Copy)]
+struct After {
+    settled: u64,
+    // the k of the block that is next
+    free: u8,
+}
+
+// The two-package round, closed as filed, and a search of so many calls of one step each.
+fn searched_by_steps<B: Copy>(
+    heap: Global,
+    rule: B,
+    steps: usize,
+) -> Result<Vec<Request<Filed, B>>, AllocError> {
+    let mut requests = vec![in heap;
+        Request::CatchUp(TWO_PACKAGES.to_vec(heap)?),
+        Request::Close(Filed),
+    ]?;
+    for _ in 0..steps {
+        requests.push(Request::Search(rule, 1))?;
+    }
+    Ok(requests)
+}
+
+// The two-package round is searched to its end in these steps, and choice 1 leads with 30 from the first of them on.
+fn check_steps<R: Abort + AllocGlobal, B: BoundingRule + Copy + Drop>(
+    rt: &R,
+    rule: B,
+    steps: &[After],
+) -> Result<(), Fail> {
+    let requests = searched_by_steps(rt.alloc(), rule, steps.len())?;
+    let run = replay(rt.alloc(), requests, &mut ())?;
+    for (moment, step) in run.moments.iter().skip(2).zip(steps) {
+        let (at, is_last) = match moment.stage {
+            Stage::Open => return Err(Fail::new("not closed")),
+            Stage::Closed(at) => (at, false),
+            Stage::Awarded(at) => (at, true),
+        };
+        assert_eq!(rt; (at.settled, at.free), (step.settled, step.free));
+        assert_eq!(rt; (at.leader, at.surplus), (1, 30));
+        assert_eq!(rt; is_last, step.settled == 4);
+    }
+    Ok(())
+}
+
+// Package 1 alone, 2 alone and both are worth 30, 30 and 10; the ceiling and the all-in rule give these caps.
+fn check_worths_and_caps<R: Abort + AllocGlobal>(rt: &R) -> Result<(), Fail> {
+    let mut offers = Offers::vacant();
+    catch_up(&mut offers, TWO_PACKAGES)?;
+    let mut docket = Docket::new(rt.alloc())?;
+    docket.close(&offers, &mut Filed)?;
+    assert_eq!(rt; worth(&docket, 1), Some(30));
+    assert_eq!(rt; worth(&docket, 2), Some(30));
+    assert_eq!(rt; worth(&docket, 3), Some(10));
+    let first = Block { first: 1, free: 0 };
+    let second = Block { first: 2, free: 1 };
+    assert_eq!(rt; Ceiling.consult(&docket, second), Some(CEILING));
+    assert_eq!(rt; AllIn.consult(&docket, first), Some(30));
+    assert_eq!(rt; AllIn.consult(&docket, second), Some(30));
+    Ok(())
+}
+
+// Fields `two_packages`, `two_packages_under_ceiling` and `two_packages_under_all_in`.
+#[test]
+fn round_1_two_packages(rt: HostRuntime) -> Result<(), Fail> {
+    let heap = rt.alloc();
+    let sheet = TWO_PACKAGES.to_vec(heap)?;
+    let requests = vec![in heap; Request::CatchUp(sheet)]?;
+    let expected = Clearing {
+        choices: 4,
+        packages: &[1],
+        choice: 1,
+        surplus: 30,
+        sales: &[10],
+    };
+    check_clearing(&rt, requests, &expected)?;
+    check_worths_and_caps(&rt)?;
+    let under_ceiling = [
+        After {
+            settled: 2,
+            free: 1,
+        },
+        After {
+            settled: 2,
+            free: 0,
+        },
+        After {
+            settled: 3,
+            free: 0,
+        },
+        After {
+            settled: 4,
+            free: 2,
+        },
+    ];
+    check_steps(&rt, Ceiling, &under_ceiling)?;
+    let under_all_in = [
+        After {
+            settled: 2,
+            free: 1,
+        },
+        After {
+            settled: 4,
+            free: 2,
+        },
+    ];
+    check_steps(&rt, AllIn, &under_all_in)
+}
+
+// Field `no_offers`.
+#[test]
+fn round_2_no_offers(rt: HostRuntime) -> Result<(), Fail> {
+    let expected = Clearing {
+        choices: 1,
+        packages: &[],
+        choice: 0,
+        surplus: 0,
+        sales: &[],
+    };
+    check_clearing(&rt, Vec::new(rt.alloc()), &expected)
+}
+
+// The four-package round with other offers.
 fn four_filed(heap: Global, others: &[Offer]) -> Result<Vec<UsualRequest>, AllocError> {
     filing(heap, &four_packages(), &six_bands(), others)
 }
 
-// With all packages unqualified, and a limit on nameplates in zone 1.
-fn four_unqualified(heap: Global, amount: u32) -> Result<Vec<UsualRequest>, AllocError> {
-    let packages = four_packages().map(unqualified);
-    filing(heap, &packages, &six_bands(), &[limit(1, 1, amount)])
-}
+// All packages but the second, of the four-package round.
+const ALL_BUT_2: Clearing = Clearing {
+    choices: 16,
+    packages: &[1, 3, 4],
+    choice: 13,
+    surplus: 123_500_000,
+    sales: &[50, 30, 150_000, 90_000, 150_000, 90_000],
+};
 
-// With the third dated before, and a percentage of power before.
-fn third_before(heap: Global, amount: u32) -> Result<Vec<UsualRequest>, AllocError> {
-    let mut packages = four_packages();
-    packages[2].date = 1;
-    filing(heap, &packages, &six_bands(), &[limit(3, 1, amount)])
-}
+// All of them.
+const ALL_FOUR: Clearing = Clearing {
+    choices: 16,
+    packages: &[1, 2, 3, 4],
+    choice: 15,
+    surplus: 118_500_000,
+    sales: &[50, 40, 150_000, 90_000, 150_000, 90_000],
+};
 
-// Round 1: the second package alone is worth as much as the first, and comes later.
+// Nothing is different. Field `four_packages`.
 #[test]
-fn two_packages(rt: HostRuntime) -> Result<(), Fail> {
-    let heap = rt.alloc();
-    let sheet = TWO_PACKAGES.to_vec(heap)?;
-    let requests = vec![in heap; Request::CatchUp(sheet)]?;
-    check_award(&rt, requests, 4, 1, 30, &[10])
+fn round_3_four_packages(rt: HostRuntime) -> Result<(), Fail> {
+    check_clearing(&rt, four_filed(rt.alloc(), &[])?, &ALL_BUT_2)
 }
 
-// Its search in calls of one step, and then its award, are answered so.
-fn check_steps<R: Abort + AllocGlobal, B: BoundingRule + Copy + Drop>(
-    rt: &R,
-    rule: B,
-    last: &[Told],
-) -> Result<(), Fail> {
-    let heap = rt.alloc();
-    let mut requests = Vec::new(heap);
-    requests.push(Request::CatchUp(TWO_PACKAGES.to_vec(heap)?))?;
-    requests.push(Request::Close(Filed))?;
-    for _ in 1..last.len() {
-        requests.push(Request::Search(rule, 1))?;
-    }
-    requests.push(Request::ReadAward(row(heap, 64)?))?;
-    check_sold(rt, requests, last, &[10])
-}
-
-// Four steps.
+// Field `package_3_withdrawn`.
 #[test]
-fn two_packages_under_ceiling(rt: HostRuntime) -> Result<(), Fail> {
-    let last = [
-        Told::Found(2, 30),
-        Told::Found(2, 30),
-        Told::Found(3, 30),
-        Told::Found(4, 30),
-        Told::Awarded(1, 30),
-    ];
-    check_steps(&rt, Ceiling, &last)
-}
-
-// Two steps.
-#[test]
-fn two_packages_under_all_in(rt: HostRuntime) -> Result<(), Fail> {
-    let last = [Told::Found(2, 30), Told::Found(4, 30), Told::Awarded(1, 30)];
-    check_steps(&rt, AllIn, &last)
-}
-
-// Round 2.
-#[test]
-fn no_offers(rt: HostRuntime) -> Result<(), Fail> {
-    check_award(&rt, Vec::new(rt.alloc()), 1, 0, 0, &[])
-}
-
-// Round 3: nothing is different.
-#[test]
-fn four_packages_and_six_bands(rt: HostRuntime) -> Result<(), Fail> {
-    let requests = four_filed(rt.alloc(), &[])?;
-    let sales = [50, 30, 150_000, 90_000, 150_000, 90_000];
-    check_award(&rt, requests, 16, 13, 123_500_000, &sales)
-}
-
-// Round 4.
-#[test]
-fn package_3_withdrawn(rt: HostRuntime) -> Result<(), Fail> {
+fn round_4_package_3_withdrawn(rt: HostRuntime) -> Result<(), Fail> {
     let mut requests = four_filed(rt.alloc(), &[])?;
     requests.push(Request::Withdraw(Kind::Package, 3))?;
-    let sales = [50, 30, 150_000, 0, 150_000, 0];
-    check_award(&rt, requests, 8, 7, 87_500_000, &sales)
+    let expected = Clearing {
+        choices: 8,
+        packages: &[1, 2, 4],
+        choice: 7,
+        surplus: 87_500_000,
+        sales: &[50, 30, 150_000, 0, 150_000, 0],
+    };
+    check_clearing(&rt, requests, &expected)
 }
 
-// Round 5.
+// Field `packages_1_and_3_exclusive`.
 #[test]
-fn packages_1_and_3_exclusive(rt: HostRuntime) -> Result<(), Fail> {
+fn round_5_packages_1_and_3_exclusive(rt: HostRuntime) -> Result<(), Fail> {
     let requests = four_filed(rt.alloc(), &[excluded(1), excluded(3)])?;
-    let sales = [50, 20, 120_000, 0, 120_000, 0];
-    check_award(&rt, requests, 16, 14, 103_000_000, &sales)
+    let expected = Clearing {
+        choices: 16,
+        packages: &[2, 3, 4],
+        choice: 14,
+        surplus: 103_000_000,
+        sales: &[50, 20, 120_000, 0, 120_000, 0],
+    };
+    check_clearing(&rt, requests, &expected)
 }
 
-// Round 6.
+// Field `package_3_needs_2`.
 #[test]
-fn package_3_needs_2(rt: HostRuntime) -> Result<(), Fail> {
+fn round_6_package_3_needs_2(rt: HostRuntime) -> Result<(), Fail> {
     let requests = four_filed(rt.alloc(), &[needs(3, 2)])?;
-    let sales = [50, 40, 150_000, 90_000, 150_000, 90_000];
-    check_award(&rt, requests, 16, 15, 118_500_000, &sales)
+    check_clearing(&rt, requests, &ALL_FOUR)
 }
 
-// Round 7: all are unqualified.
+// The four-package round with each nameplate equal to the power, all unqualified, and so many MW of room in zone 1.
+fn four_unqualified(heap: Global, room: u32) -> Result<Vec<UsualRequest>, AllocError> {
+    let packages = four_packages().map(unqualified);
+    filing(heap, &packages, &six_bands(), &[limit(1, 1, room)])
+}
+
+// Field `nameplates_within_50`.
 #[test]
-fn nameplates_within_50(rt: HostRuntime) -> Result<(), Fail> {
+fn round_7_nameplates_within_50(rt: HostRuntime) -> Result<(), Fail> {
     let requests = four_unqualified(rt.alloc(), 50)?;
-    let sales = [50, 0, 150_000, 60_000, 150_000, 60_000];
-    check_award(&rt, requests, 16, 5, 111_500_000, &sales)
+    let expected = Clearing {
+        choices: 16,
+        packages: &[1, 3],
+        choice: 5,
+        surplus: 111_500_000,
+        sales: &[50, 0, 150_000, 60_000, 150_000, 60_000],
+    };
+    check_clearing(&rt, requests, &expected)
 }
 
-// Round 8.
+// Field `nameplates_within_49`.
 #[test]
-fn nameplates_within_49(rt: HostRuntime) -> Result<(), Fail> {
+fn round_8_nameplates_within_49(rt: HostRuntime) -> Result<(), Fail> {
     let requests = four_unqualified(rt.alloc(), 49)?;
-    let sales = [40, 0, 90_000, 0, 90_000, 0];
-    check_award(&rt, requests, 16, 6, 80_500_000, &sales)
+    let expected = Clearing {
+        choices: 16,
+        packages: &[2, 3],
+        choice: 6,
+        surplus: 80_500_000,
+        sales: &[40, 0, 90_000, 0, 90_000, 0],
+    };
+    check_clearing(&rt, requests, &expected)
 }
 
-// Round 9: package 3 is dated before.
+// Package 3 is dated before: 25 per cent are enough for its 20 MW of 80, and of 24 only 90 MW are. Fields
+// `power_before_25_per_cent` and `power_before_24_per_cent`.
 #[test]
-fn power_before_25_per_cent(rt: HostRuntime) -> Result<(), Fail> {
-    let requests = third_before(rt.alloc(), 25)?;
-    let sales = [50, 30, 150_000, 90_000, 150_000, 90_000];
-    check_award(&rt, requests, 16, 13, 123_500_000, &sales)
+fn round_9_power_before_a_percentage(rt: HostRuntime) -> Result<(), Fail> {
+    let mut packages = four_packages();
+    packages[2].date = 1;
+    for (percentage, expected) in [(25, ALL_BUT_2), (24, ALL_FOUR)] {
+        let limits = [limit(3, 1, percentage)];
+        let requests = filing(rt.alloc(), &packages, &six_bands(), &limits)?;
+        check_clearing(&rt, requests, &expected)?;
+    }
+    Ok(())
 }
 
-// Round 9, second part.
+// A package's price as filed, by the place rule, and by the currency rule on it.
+#[derive(Clone, Copy)]
+struct Prices {
+    filed: u64,
+    place: i64,
+    currency: i64,
+}
+
+// Fields `own_price_below_zero` and `own_price_above_zero`.
 #[test]
-fn power_before_24_per_cent(rt: HostRuntime) -> Result<(), Fail> {
-    let requests = third_before(rt.alloc(), 24)?;
-    let sales = [50, 40, 150_000, 90_000, 150_000, 90_000];
-    check_award(&rt, requests, 16, 15, 118_500_000, &sales)
+fn round_10_own_prices_rounded_up(rt: HostRuntime) -> Result<(), Fail> {
+    let below_zero = Prices {
+        filed: 0,
+        place: -30,
+        currency: -30,
+    };
+    let above_zero = Prices {
+        filed: 100,
+        place: 70,
+        currency: 71,
+    };
+    let mut own = stack(-3, 10_100, 10_000)?;
+    for expected in [below_zero, above_zero] {
+        let terms = Package {
+            dollar: 1,
+            ..package(0, 10, 0, expected.filed)
+        };
+        assert_eq!(rt; own.below.price(&terms), Ok(expected.place));
+        assert_eq!(rt; own.price(&terms), Ok(expected.currency));
+    }
+    Ok(())
 }
 
-// What a dollar package of 10 MWh at this filed price is worth to a band for them at 8 pesos, priced in the round's own
-// stack with a preference of 10,100, an expectation of 10,000, and -3 in zone 1.
-fn check_worth<R: Abort + AllocGlobal>(rt: &R, price: u64, surplus: i64) -> Result<(), Fail> {
-    let offer = Offer::Package(Package {
-        dollar: 1,
-        ..package(0, 10, 0, price)
-    });
-    let close = Request::Close(stack(-3, 10_100, 10_000)?);
-    let requests = vec![in rt.alloc();
-        Request::File(1, offer),
-        Request::File(1, band(4, 10, 8)),
-        close,
-        Request::Search(AllIn, 1),
-    ]?;
-    check_answers(rt, requests, &[Told::Found(2, surplus)])
-}
-
-// Round 10: the price is -30 pesos, and 80 are paid.
-#[test]
-fn own_price_below_zero(rt: HostRuntime) -> Result<(), Fail> {
-    check_worth(&rt, 0, 110)
-}
-
-// The price is 71.
-#[test]
-fn own_price_above_zero(rt: HostRuntime) -> Result<(), Fail> {
-    check_worth(&rt, 100, 9)
+// A package of the two-package round.
+fn ten_for_20() -> Offer {
+    Offer::Package(package(0, 10, 0, 20))
 }
 
 // Package 2 of the two-package round is filed and withdrawn, and then the sheet of that round comes, with package 2 for
-// this price: what it is answered, and what stands then at package 1 and at band 1. Package 2 stays withdrawn.
+// this price. It is answered so, and then these entries stand.
 fn check_sheet<R: Abort + AllocGlobal>(
     rt: &R,
     price: u8,
     told: Told,
-    package_1: Entry<Package>,
-    band_1: Entry<Band>,
+    expected: &Offers,
 ) -> Result<(), Fail> {
     let heap = rt.alloc();
-    let ten_for_20 = package(0, 10, 0, 20);
     let mut sheet = *TWO_PACKAGES;
     sheet[64] = price;
     let sheet = sheet.to_vec(heap)?;
     let requests: Vec<UsualRequest> = vec![in heap;
-        Request::File(2, Offer::Package(ten_for_20)),
+        Request::File(2, ten_for_20()),
         Request::Withdraw(Kind::Package, 2),
         Request::CatchUp(sheet),
     ]?;
-    let offers = check_run(rt, requests, &[told])?.round.offers();
-    let entry = offers.packages.entries[0];
-    assert_eq!(rt; entry, package_1);
-    let entry = offers.packages.entries[1];
-    assert_eq!(rt; entry, Entry::Withdrawn(ten_for_20));
-    let entry = offers.bands.entries[0];
-    assert_eq!(rt; entry, band_1);
+    let run = check_run(rt, requests, &[told])?;
+    check_same(rt, &run.round.offers(), expected);
     Ok(())
 }
 
-// Round 11: a withdrawal outlives an older sheet.
+// Package 1 and band 1 are then open, and package 2 stays withdrawn. Field `older_sheet`.
 #[test]
-fn older_sheet(rt: HostRuntime) -> Result<(), Fail> {
-    let ten_at_5 = Band {
-        market: 4,
-        quantity: 10,
-        price: 5,
-    };
-    check_sheet(
-        &rt,
-        20,
-        Told::Done,
-        Entry::Open(package(0, 10, 0, 20)),
-        Entry::Open(ten_at_5),
-    )
+fn round_11_a_withdrawal_outlives_an_older_sheet(rt: HostRuntime) -> Result<(), Fail> {
+    let mut expected = Offers::vacant();
+    expected.file(1, ten_for_20())?;
+    expected.file(2, ten_for_20())?;
+    expected.withdraw(Kind::Package, 2)?;
+    expected.file(1, band(4, 10, 5))?;
+    check_sheet(&rt, 20, Told::Done, &expected)
 }
 
-// Round 12: a clash leaves all as it was.
+// On the sheet package 2 has price 21: the round is unchanged. Field `another_price_clashes`.
 #[test]
-fn another_price_clashes(rt: HostRuntime) -> Result<(), Fail> {
-    let clash = refusal(Code::Clash, 1, 2, 0, 36);
-    check_sheet(&rt, 21, Told::Refused(clash), Entry::Vacant, Entry::Vacant)
+fn round_12_a_clash(rt: HostRuntime) -> Result<(), Fail> {
+    let mut expected = Offers::vacant();
+    expected.file(2, ten_for_20())?;
+    expected.withdraw(Kind::Package, 2)?;
+    let clash = Refusal {
+        code: Code::Clash,
+        tag: 1,
+        number: 2,
+        field: 0,
+        byte: 36,
+        depth: 0,
+    };
+    assert_eq!(rt; clash.code.number(), 9);
+    check_sheet(&rt, 21, Told::Refused(clash), &expected)
 }
