@@ -1,6 +1,5 @@
 //! Each refusal of filing and withdrawing, with all its values, and what a refused call leaves.
-use crate::fixtures::refusal;
-use offers::{Band, Code, Entry, Exclusion, Kind, Limit, Offer, Offers, Pair, Register};
+use offers::{Band, Code, Entry, Exclusion, Kind, Limit, Offer, Offers, Pair, Refusal, Register};
 use std::test::*;
 
 const PAIR: Pair = Pair {
@@ -35,7 +34,11 @@ fn a_short_register(rt: HostRuntime) -> Result<(), Fail> {
     register.file(2, PAIR)?;
     assert_eq!(rt;
         register.file(3, PAIR),
-        Err(refusal(Code::NumberOutside, 3, 3, 0, 0))
+        Err(Refusal {
+            tag: 3,
+            number: 3,
+            ..Refusal::code_only(Code::NumberOutside)
+        })
     );
     register.withdraw(2)?;
     assert_eq!(rt; entries, [Entry::Vacant, Entry::Withdrawn(PAIR)]);
@@ -50,22 +53,18 @@ fn number_outside(rt: HostRuntime) -> Result<(), Fail> {
         zone: 1,
         amount: 50,
     });
-    assert_eq!(rt;
-        offers.file(0, limit),
-        Err(refusal(Code::NumberOutside, 5, 0, 0, 0))
-    );
-    assert_eq!(rt;
-        offers.file(33, limit),
-        Err(refusal(Code::NumberOutside, 5, 33, 0, 0))
-    );
-    assert_eq!(rt;
-        offers.withdraw(Kind::Limit, 0),
-        Err(refusal(Code::NumberOutside, 5, 0, 0, 0))
-    );
-    assert_eq!(rt;
-        offers.withdraw(Kind::Limit, 33),
-        Err(refusal(Code::NumberOutside, 5, 33, 0, 0))
-    );
+    let below = Refusal {
+        tag: 5,
+        ..Refusal::code_only(Code::NumberOutside)
+    };
+    let above = Refusal {
+        number: 33,
+        ..below
+    };
+    assert_eq!(rt; offers.file(0, limit), Err(below));
+    assert_eq!(rt; offers.file(33, limit), Err(above));
+    assert_eq!(rt; offers.withdraw(Kind::Limit, 0), Err(below));
+    assert_eq!(rt; offers.withdraw(Kind::Limit, 33), Err(above));
     offers.file(1, limit)?;
     offers.file(32, limit)?;
     Ok(())
@@ -85,11 +84,19 @@ fn last_numbers(rt: HostRuntime) -> Result<(), Fail> {
     for (kind, tag, last, next) in kinds {
         assert_eq!(rt;
             offers.withdraw(kind, last),
-            Err(refusal(Code::NotFiled, tag, last, 0, 0))
+            Err(Refusal {
+                tag,
+                number: last,
+                ..Refusal::code_only(Code::NotFiled)
+            })
         );
         assert_eq!(rt;
             offers.withdraw(kind, next),
-            Err(refusal(Code::NumberOutside, tag, next, 0, 0))
+            Err(Refusal {
+                tag,
+                number: next,
+                ..Refusal::code_only(Code::NumberOutside)
+            })
         );
     }
     Ok(())
@@ -105,7 +112,12 @@ fn field_outside(rt: HostRuntime) -> Result<(), Fail> {
     };
     assert_eq!(rt;
         offers.file(64, Offer::Band(band)),
-        Err(refusal(Code::FieldOutside, 2, 64, 3, 0))
+        Err(Refusal {
+            tag: 2,
+            number: 64,
+            field: 3,
+            ..Refusal::code_only(Code::FieldOutside)
+        })
     );
     let entry = offers.bands.entries[63];
     assert_eq!(rt; entry, Entry::Vacant);
@@ -118,7 +130,11 @@ fn already_open(rt: HostRuntime) -> Result<(), Fail> {
     offers.file(7, Offer::Pair(PAIR))?;
     assert_eq!(rt;
         offers.file(7, Offer::Pair(OTHER_PAIR)),
-        Err(refusal(Code::AlreadyOpen, 3, 7, 0, 0))
+        Err(Refusal {
+            tag: 3,
+            number: 7,
+            ..Refusal::code_only(Code::AlreadyOpen)
+        })
     );
     let entry = offers.pairs.entries[6];
     assert_eq!(rt; entry, Entry::Open(PAIR));
@@ -130,14 +146,13 @@ fn already_withdrawn(rt: HostRuntime) -> Result<(), Fail> {
     let mut offers = Offers::vacant();
     offers.file(7, Offer::Pair(PAIR))?;
     offers.withdraw(Kind::Pair, 7)?;
-    assert_eq!(rt;
-        offers.file(7, Offer::Pair(OTHER_PAIR)),
-        Err(refusal(Code::AlreadyWithdrawn, 3, 7, 0, 0))
-    );
-    assert_eq!(rt;
-        offers.withdraw(Kind::Pair, 7),
-        Err(refusal(Code::AlreadyWithdrawn, 3, 7, 0, 0))
-    );
+    let withdrawn = Refusal {
+        tag: 3,
+        number: 7,
+        ..Refusal::code_only(Code::AlreadyWithdrawn)
+    };
+    assert_eq!(rt; offers.file(7, Offer::Pair(OTHER_PAIR)), Err(withdrawn));
+    assert_eq!(rt; offers.withdraw(Kind::Pair, 7), Err(withdrawn));
     let entry = offers.pairs.entries[6];
     assert_eq!(rt; entry, Entry::Withdrawn(PAIR));
     Ok(())
@@ -148,7 +163,11 @@ fn not_filed(rt: HostRuntime) -> Result<(), Fail> {
     let mut offers = Offers::vacant();
     assert_eq!(rt;
         offers.withdraw(Kind::Exclusion, 64),
-        Err(refusal(Code::NotFiled, 4, 64, 0, 0))
+        Err(Refusal {
+            tag: 4,
+            number: 64,
+            ..Refusal::code_only(Code::NotFiled)
+        })
     );
     let entry = offers.exclusions.entries[63];
     assert_eq!(rt; entry, Entry::Vacant);
@@ -170,11 +189,20 @@ fn order_of_checks(rt: HostRuntime) -> Result<(), Fail> {
     offers.file(1, Offer::Exclusion(member))?;
     assert_eq!(rt;
         offers.file(65, Offer::Exclusion(stray)),
-        Err(refusal(Code::NumberOutside, 4, 65, 0, 0))
+        Err(Refusal {
+            tag: 4,
+            number: 65,
+            ..Refusal::code_only(Code::NumberOutside)
+        })
     );
     assert_eq!(rt;
         offers.file(1, Offer::Exclusion(stray)),
-        Err(refusal(Code::FieldOutside, 4, 1, 2, 0))
+        Err(Refusal {
+            tag: 4,
+            number: 1,
+            field: 2,
+            ..Refusal::code_only(Code::FieldOutside)
+        })
     );
     let entry = offers.exclusions.entries[0];
     assert_eq!(rt; entry, Entry::Open(member));

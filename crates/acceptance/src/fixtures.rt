@@ -1,23 +1,12 @@
 //! What tests are written with: the offers of the worked rounds, requests to a round, and what they are answered.
 use bounds::{AllIn, BoundingRule, Joined, Limits};
-use offers::{Band, Code, Exclusion, Limit, Offer, Offers, Package, Pair, Refusal};
+use offers::{Band, Exclusion, Limit, Offer, Offers, Package, Pair, Refusal};
 use pricing::{Currency, Filed, Place, PriceRule, Rates, ZoneNumbers};
 use reports::Report;
 use rounds::{Moment, Reply, Request, Round, Run, replay};
 use std::alloc::{AllocError, Global};
 use std::process::Abort;
 use std::test::*;
-
-/// A refusal of any call but a closing, which alone tells of a price rule's depth. `sheets` has the same, but for itself only.
-pub fn refusal(code: Code, tag: u8, number: u8, field: u8, byte: usize) -> Refusal {
-    Refusal {
-        tag,
-        number,
-        field,
-        byte,
-        ..Refusal::code_only(code)
-    }
-}
 
 /// A package of which each field has its least value.
 pub const LEAST: Package = Package {

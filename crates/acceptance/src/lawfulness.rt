@@ -1,5 +1,5 @@
 //! What choices of the four-package round are worth, and each rule of lawfulness just kept and just broken.
-use crate::fixtures::{excluded, four_packages, limit, needs, package, refusal, six_bands};
+use crate::fixtures::{excluded, four_packages, limit, needs, package, six_bands};
 use clearing::{Docket, is_lawful, worth};
 use offers::{Code, Offer, Offers, Package, Refusal};
 use pricing::{Filed, Place, ZoneNumbers};
@@ -192,8 +192,10 @@ fn price_fault(rt: HostRuntime) -> Result<(), Fail> {
     assert_eq!(rt;
         docket.close(&offers, &mut rule),
         Err(Refusal {
+            tag: 1,
+            number: 7,
             depth: 3,
-            ..refusal(Code::PriceFault, 1, 7, 0, 0)
+            ..Refusal::code_only(Code::PriceFault)
         })
     );
     Ok(())

@@ -1,6 +1,6 @@
 //! Prices by the filed, the place and the currency rule, and their faults.
-use crate::fixtures::{package, refusal, stack};
-use offers::{Code, Package};
+use crate::fixtures::{package, stack};
+use offers::{Code, Package, Refusal};
 use pricing::{Fault, PriceRule};
 use std::test::*;
 
@@ -65,7 +65,7 @@ fn numbers_out_of_range(rt: HostRuntime) -> Result<(), Fail> {
     ] {
         assert_eq!(rt;
             stack(number, preference, expectation).err(),
-            Some(refusal(Code::FieldOutside, 0, 0, 0, 0))
+            Some(Refusal::code_only(Code::FieldOutside))
         );
     }
     assert!(rt; stack(1_000, 11_000, 20_000).is_ok());

@@ -1,7 +1,7 @@
 //! Runs of calls: what each state takes, what a refused call leaves, and rounds that are closed more than once.
 use crate::fixtures::{
     LIMITS_AND_ALL_IN, TWO_PACKAGES, Told, UsualRequest, band, check_answers, check_run,
-    check_sold, filing, four_packages, package, refusal, row, six_bands, stack,
+    check_sold, filing, four_packages, package, row, six_bands, stack,
 };
 use bounds::Ceiling;
 use offers::{Code, Kind, Offer, Package, Refusal};
@@ -105,7 +105,7 @@ fn nothing_open(rt: HostRuntime) -> Result<(), Fail> {
         Request::Search(LIMITS_AND_ALL_IN, 1),
         Request::ReadAward(row),
     ]?;
-    let outside = Told::Refused(refusal(Code::StepsOutside, 0, 0, 0, 0));
+    let outside = Told::Refused(Refusal::code_only(Code::StepsOutside));
     let last = [outside, outside, Told::Found(1, 0), Told::Awarded(0, 0)];
     check_sold(&rt, requests, &last, &[0])
 }
@@ -138,7 +138,7 @@ fn longer_row(rt: HostRuntime) -> Result<(), Fail> {
 // Every place is kept.
 #[test]
 fn shorter_row(rt: HostRuntime) -> Result<(), Fail> {
-    let no_room = refusal(Code::NoRoom, 0, 0, 0, 0);
+    let no_room = Refusal::code_only(Code::NoRoom);
     check_row_of(&rt, 63, Told::Refused(no_room), &[7; 63])
 }
 
@@ -180,7 +180,7 @@ fn sheet_in_each_state(rt: HostRuntime) -> Result<(), Fail> {
     ask_for_sheets(&mut requests, heap)?;
     requests.push(Request::Search(LIMITS_AND_ALL_IN, 100))?;
     ask_for_sheets(&mut requests, heap)?;
-    let no_room = Told::Refused(refusal(Code::NoRoom, 0, 0, 0, 0));
+    let no_room = Told::Refused(Refusal::code_only(Code::NoRoom));
     let last = [
         Told::Written(86),
         no_room,
@@ -231,8 +231,10 @@ fn reopened(rt: HostRuntime) -> Result<(), Fail> {
 // The answer to a closing where this package's price is a fault of the third rule from below.
 fn no_price(number: u8) -> Told {
     Told::Refused(Refusal {
+        tag: 1,
+        number,
         depth: 3,
-        ..refusal(Code::PriceFault, 1, number, 0, 0)
+        ..Refusal::code_only(Code::PriceFault)
     })
 }
 

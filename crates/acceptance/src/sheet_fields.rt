@@ -1,5 +1,5 @@
 //! Sheets: every offence at several places, their order, the fullest sheet, and how a withdrawal travels.
-use crate::fixtures::{LEAST, refusal};
+use crate::fixtures::LEAST;
 use offers::{Band, Code, Entry, Exclusion, Kind, Limit, Offer, Offers, Package, Pair, Refusal};
 use sheets::{catch_up, write_sheet};
 use std::process::Abort;
@@ -65,6 +65,33 @@ fn sheet() -> Result<[u8; END], Refusal> {
     Ok(bytes)
 }
 
+// A refusal of the field that starts at this byte, of which only a tag was read.
+fn headed(code: Code, tag: u8, byte: usize) -> Refusal {
+    Refusal {
+        tag,
+        byte,
+        ..Refusal::code_only(code)
+    }
+}
+
+// And of one that was read as far as its number.
+fn numbered(code: Code, kind: Kind, number: u8, byte: usize) -> Refusal {
+    Refusal {
+        tag: kind.tag(),
+        number,
+        byte,
+        ..Refusal::code_only(code)
+    }
+}
+
+// And of one with number 1 that holds a value out of range.
+fn field_outside(kind: Kind, field: u8, byte: usize) -> Refusal {
+    Refusal {
+        field,
+        ..numbered(Code::FieldOutside, kind, 1, byte)
+    }
+}
+
 // The sheet with one byte changed is refused so, by a round that has nothing.
 fn check_changed(rt: &impl Abort, rows: &[(usize, u8, Refusal)]) -> Result<(), Fail> {
     for (at, byte, expected) in rows {
@@ -84,13 +111,13 @@ fn strange_headers(rt: HostRuntime) -> Result<(), Fail> {
     check_changed(
         &rt,
         &[
-            (0, 0, refusal(Code::Strange, 0, 0, 0, 0)),
-            (0, 6, refusal(Code::Strange, 6, 0, 0, 0)),
-            (1, 1, refusal(Code::Strange, 1, 0, 0, 0)),
-            (2, 32, refusal(Code::Strange, 1, 0, 0, 0)),
-            (THIRD, 255, refusal(Code::Strange, 255, 0, 0, THIRD)),
-            (THIRD + 2, 33, refusal(Code::Strange, 2, 0, 0, THIRD)),
-            (SIXTH + 2, 9, refusal(Code::Strange, 5, 0, 0, SIXTH)),
+            (0, 0, Refusal::code_only(Code::Strange)),
+            (0, 6, headed(Code::Strange, 6, 0)),
+            (1, 1, headed(Code::Strange, 1, 0)),
+            (2, 32, headed(Code::Strange, 1, 0)),
+            (THIRD, 255, headed(Code::Strange, 255, THIRD)),
+            (THIRD + 2, 33, headed(Code::Strange, 2, THIRD)),
+            (SIXTH + 2, 9, headed(Code::Strange, 5, SIXTH)),
         ],
     )
 }
@@ -100,12 +127,24 @@ fn numbers_and_order(rt: HostRuntime) -> Result<(), Fail> {
     check_changed(
         &rt,
         &[
-            (3, 0, refusal(Code::NumberOutside, 1, 0, 0, 0)),
-            (3, 41, refusal(Code::NumberOutside, 1, 41, 0, 0)),
-            (THIRD + 3, 65, refusal(Code::NumberOutside, 2, 65, 0, THIRD)),
-            (SIXTH + 3, 33, refusal(Code::NumberOutside, 5, 33, 0, SIXTH)),
-            (SECOND + 3, 1, refusal(Code::NotRising, 1, 1, 0, SECOND)),
-            (FIFTH, 3, refusal(Code::NotRising, 3, 1, 0, FIFTH)),
+            (3, 0, numbered(Code::NumberOutside, Kind::Package, 0, 0)),
+            (3, 41, numbered(Code::NumberOutside, Kind::Package, 41, 0)),
+            (
+                THIRD + 3,
+                65,
+                numbered(Code::NumberOutside, Kind::Band, 65, THIRD),
+            ),
+            (
+                SIXTH + 3,
+                33,
+                numbered(Code::NumberOutside, Kind::Limit, 33, SIXTH),
+            ),
+            (
+                SECOND + 3,
+                1,
+                numbered(Code::NotRising, Kind::Package, 1, SECOND),
+            ),
+            (FIFTH, 3, numbered(Code::NotRising, Kind::Pair, 1, FIFTH)),
         ],
     )
 }
@@ -115,15 +154,15 @@ fn status_and_fields(rt: HostRuntime) -> Result<(), Fail> {
     check_changed(
         &rt,
         &[
-            (4, 0, refusal(Code::FieldOutside, 1, 1, 1, 0)),
-            (4, 3, refusal(Code::FieldOutside, 1, 1, 1, 0)),
-            (5, 1, refusal(Code::FieldOutside, 1, 1, 2, 0)),
-            (35, 2, refusal(Code::FieldOutside, 1, 1, 13, 0)),
-            (THIRD + 5, 6, refusal(Code::FieldOutside, 2, 1, 2, THIRD)),
-            (FOURTH + 6, 1, refusal(Code::FieldOutside, 3, 1, 3, FOURTH)),
-            (FIFTH + 5, 17, refusal(Code::FieldOutside, 4, 1, 2, FIFTH)),
-            (SIXTH + 6, 5, refusal(Code::FieldOutside, 5, 1, 3, SIXTH)),
-            (END - 1, 101, refusal(Code::FieldOutside, 5, 1, 4, SIXTH)),
+            (4, 0, field_outside(Kind::Package, 1, 0)),
+            (4, 3, field_outside(Kind::Package, 1, 0)),
+            (5, 1, field_outside(Kind::Package, 2, 0)),
+            (35, 2, field_outside(Kind::Package, 13, 0)),
+            (THIRD + 5, 6, field_outside(Kind::Band, 2, THIRD)),
+            (FOURTH + 6, 1, field_outside(Kind::Pair, 3, FOURTH)),
+            (FIFTH + 5, 17, field_outside(Kind::Exclusion, 2, FIFTH)),
+            (SIXTH + 6, 5, field_outside(Kind::Limit, 3, SIXTH)),
+            (END - 1, 101, field_outside(Kind::Limit, 4, SIXTH)),
         ],
     )
 }
@@ -133,13 +172,13 @@ fn status_and_fields(rt: HostRuntime) -> Result<(), Fail> {
 fn cut_short(rt: HostRuntime) -> Result<(), Fail> {
     let bytes = sheet()?;
     let rows = [
-        (1, refusal(Code::CutShort, 0, 0, 0, 0)),
-        (2, refusal(Code::CutShort, 0, 0, 0, 0)),
-        (3, refusal(Code::CutShort, 1, 0, 0, 0)),
-        (35, refusal(Code::CutShort, 1, 0, 0, 0)),
-        (SECOND + 2, refusal(Code::CutShort, 0, 0, 0, SECOND)),
-        (FOURTH + 4, refusal(Code::CutShort, 3, 0, 0, FOURTH)),
-        (END - 1, refusal(Code::CutShort, 5, 0, 0, SIXTH)),
+        (1, Refusal::code_only(Code::CutShort)),
+        (2, Refusal::code_only(Code::CutShort)),
+        (3, headed(Code::CutShort, 1, 0)),
+        (35, headed(Code::CutShort, 1, 0)),
+        (SECOND + 2, headed(Code::CutShort, 0, SECOND)),
+        (FOURTH + 4, headed(Code::CutShort, 3, FOURTH)),
+        (END - 1, headed(Code::CutShort, 5, SIXTH)),
     ];
     for (length, expected) in rows {
         assert!(rt; length < END);
@@ -158,13 +197,13 @@ fn first_offence(rt: HostRuntime) -> Result<(), Fail> {
     let mut offers = Offers::vacant();
     assert_eq!(rt;
         catch_up(&mut offers, &bytes),
-        Err(refusal(Code::NotRising, 1, 1, 0, SECOND))
+        Err(numbered(Code::NotRising, Kind::Package, 1, SECOND))
     );
     bytes[4] = 3;
     bytes[5] = 1;
     assert_eq!(rt;
         catch_up(&mut offers, &bytes),
-        Err(refusal(Code::FieldOutside, 1, 1, 1, 0))
+        Err(field_outside(Kind::Package, 1, 0))
     );
     Ok(())
 }
@@ -183,7 +222,7 @@ fn clash_before_a_cut(rt: HostRuntime) -> Result<(), Fail> {
     )?;
     assert_eq!(rt;
         catch_up(&mut offers, &bytes[0..SECOND + 1]),
-        Err(refusal(Code::Clash, 1, 1, 0, 0))
+        Err(numbered(Code::Clash, Kind::Package, 1, 0))
     );
     Ok(())
 }
@@ -209,7 +248,7 @@ fn buffers(rt: HostRuntime) -> Result<(), Fail> {
     let mut shorter = [7u8; END - 1];
     assert_eq!(rt;
         write_sheet(&offers, &mut shorter),
-        Err(refusal(Code::NoRoom, 0, 0, 0, 0))
+        Err(Refusal::code_only(Code::NoRoom))
     );
     assert_eq!(rt; shorter[0], 7);
     Ok(())
@@ -258,7 +297,7 @@ fn an_older_sheet(rt: HostRuntime) -> Result<(), Fail> {
     dearer[SECOND + 28] = 21;
     assert_eq!(rt;
         catch_up(&mut offers, &dearer),
-        Err(refusal(Code::Clash, 1, 2, 0, SECOND))
+        Err(numbered(Code::Clash, Kind::Package, 2, SECOND))
     );
     Ok(())
 }

@@ -1,9 +1,8 @@
 //! What is printed of an award and of a refused sheet.
 use crate::fixtures::{
-    LIMITS_AND_ALL_IN, TWO_PACKAGES, UsualRequest, filing, four_packages, refusal, report_of,
-    six_bands,
+    LIMITS_AND_ALL_IN, TWO_PACKAGES, UsualRequest, filing, four_packages, report_of, six_bands,
 };
-use offers::Code;
+use offers::{Code, Refusal};
 use pricing::Filed;
 use reports::{RefusedSheet, Report};
 use rounds::{OpenRound, Progress, Request, finish, replay};
@@ -67,7 +66,12 @@ fn two_packages_and_a_band(rt: HostRuntime) -> Result<(), Fail> {
 
 #[test]
 fn refused_sheet(rt: HostRuntime) -> Result<(), Fail> {
-    let refused = RefusedSheet(refusal(Code::NotRising, 1, 1, 0, 36));
+    let refused = RefusedSheet(Refusal {
+        tag: 1,
+        number: 1,
+        byte: 36,
+        ..Refusal::code_only(Code::NotRising)
+    });
     assert_eq!(rt;
         refused.to_string(rt.alloc())?.as_str(),
         "refused 8 at 36\n"

@@ -21,6 +21,36 @@ struct After {
     free: u8,
 }
 
+const UNDER_CEILING: &[After] = &[
+    After {
+        settled: 2,
+        free: 1,
+    },
+    After {
+        settled: 2,
+        free: 0,
+    },
+    After {
+        settled: 3,
+        free: 0,
+    },
+    After {
+        settled: 4,
+        free: 2,
+    },
+];
+
+const UNDER_ALL_IN: &[After] = &[
+    After {
+        settled: 2,
+        free: 1,
+    },
+    After {
+        settled: 4,
+        free: 2,
+    },
+];
+
 // The two-package round, closed as filed, and a search of so many calls of one step each.
 fn searched_by_steps<B: Copy>(
     heap: Global,
@@ -90,36 +120,8 @@ fn round_1_two_packages(rt: HostRuntime) -> Result<(), Fail> {
     };
     check_clearing(&rt, requests, &expected)?;
     check_worths_and_caps(&rt)?;
-    let under_ceiling = [
-        After {
-            settled: 2,
-            free: 1,
-        },
-        After {
-            settled: 2,
-            free: 0,
-        },
-        After {
-            settled: 3,
-            free: 0,
-        },
-        After {
-            settled: 4,
-            free: 2,
-        },
-    ];
-    check_steps(&rt, Ceiling, &under_ceiling)?;
-    let under_all_in = [
-        After {
-            settled: 2,
-            free: 1,
-        },
-        After {
-            settled: 4,
-            free: 2,
-        },
-    ];
-    check_steps(&rt, AllIn, &under_all_in)
+    check_steps(&rt, Ceiling, UNDER_CEILING)?;
+    check_steps(&rt, AllIn, UNDER_ALL_IN)
 }
 
 // Field `no_offers`.
@@ -319,19 +321,17 @@ fn round_11_a_withdrawal_outlives_an_older_sheet(rt: HostRuntime) -> Result<(), 
     check_sheet(&rt, 20, Told::Done, &expected)
 }
 
-// On the sheet package 2 has price 21: the round is unchanged. Field `another_price_clashes`.
+// On the sheet package 2 has price 21: it is refused with code 9, and the round is unchanged. Field `another_price_clashes`.
 #[test]
 fn round_12_a_clash(rt: HostRuntime) -> Result<(), Fail> {
     let mut expected = Offers::vacant();
     expected.file(2, ten_for_20())?;
     expected.withdraw(Kind::Package, 2)?;
     let clash = Refusal {
-        code: Code::Clash,
         tag: 1,
         number: 2,
-        field: 0,
         byte: 36,
-        depth: 0,
+        ..Refusal::code_only(Code::Clash)
     };
     assert_eq!(rt; clash.code.number(), 9);
     check_sheet(&rt, 21, Told::Refused(clash), &expected)
