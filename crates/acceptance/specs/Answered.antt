@@ -37,11 +37,11 @@ open_with packages bands = model (record {
 }) IsOpen
 
 -- What a round's first calls are answered, and what they leave of it.
-pub record Leaves (calls : List Call) (answered : List Answer) (left : Model) : Type 0 where
+pub record Leaves (calls : List Call) (answered : List Answer) (round : Model) : Type 0 where
   -- each call, in turn, is answered so
   pub answers : answers calls ≡ answered
   -- and after the last the round is this
-  pub after : after calls ≡ left
+  pub after : after calls ≡ round
 
 -- What a round that is searched to its end comes to.
 pub record Clearing : Type 0 where

@@ -174,7 +174,7 @@ fn not_filed(rt: HostRuntime) -> Result<(), Fail> {
     Ok(())
 }
 
-// The number is looked at first, then the record, then what stands there.
+// The number is looked at first, then the offer's fields, then what stands there.
 #[test]
 fn order_of_checks(rt: HostRuntime) -> Result<(), Fail> {
     let mut offers = Offers::vacant();

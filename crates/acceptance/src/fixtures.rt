@@ -155,7 +155,7 @@ pub enum Told {
 }
 
 impl Told {
-    fn of(reply: &Reply) -> Told {
+    fn from_reply(reply: &Reply) -> Told {
         match reply {
             Reply::Done(Ok(())) => Told::Done,
             Reply::Found(Ok((settled, surplus))) => Told::Found(*settled, *surplus),
@@ -185,7 +185,7 @@ pub fn check_run<R: Abort + AllocGlobal, P: PriceRule + Drop, B: BoundingRule + 
             Some(place) => last.get(place).copied().unwrap_or(Told::NotTaken),
             None => Told::Done,
         };
-        assert_eq!(rt; Told::of(&moment.reply), expected, "request {at}");
+        assert_eq!(rt; Told::from_reply(&moment.reply), expected, "request {at}");
     }
     Ok(run)
 }

@@ -4,21 +4,17 @@ use offers::{Band, Exclusion, Limit, Package, Pair, Record};
 use std::process::Abort;
 use std::test::*;
 
-// Checks a record with one field changed: after each value stands the first field that is then out of range, 0 for none.
+// Checks an offer with one field changed: after each value stands the first field that is then out of range, 0 for none.
 macro_rules! check_fields {
-    ($rt:expr, $kind:ident, $record:expr, $($field:ident: $($value:expr => $fault:expr),+;)+) => {
-        check_faults(&$rt, &[$($(($kind { $field: $value, ..$record }, $fault)),+),+])
+    ($rt:expr, $kind:ident, $offer:expr, $($field:ident: $($value:expr => $fault:expr),+;)+) => {
+        check_faults(&$rt, &[$($(($kind { $field: $value, ..$offer }, $fault)),+),+])
     };
 }
 
-// Each row is a record and its first field out of range, 0 for none.
+// Each row is an offer and its first field out of range, 0 for none.
 fn check_faults<R: Record>(rt: &impl Abort, rows: &[(R, u8)]) -> Result<(), Fail> {
-    for (row, (record, field)) in rows.iter().enumerate() {
-        assert_eq!(rt;
-            record.fault(),
-            (*field != 0).then_some(*field),
-            "row {row}"
-        );
+    for (row, (offer, field)) in rows.iter().enumerate() {
+        assert_eq!(rt; offer.fault(), (*field != 0).then_some(*field), "row {row}");
     }
     Ok(())
 }

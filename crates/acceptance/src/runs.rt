@@ -161,11 +161,15 @@ fn check_buffers(rt: &impl Abort, run: &Run) {
             } else {
                 &[]
             };
-            for (place, byte) in buffer.iter().enumerate() {
-                let expected = sheet.get(place).copied().unwrap_or(7);
-                assert_eq!(rt; *byte, expected, "place {place}");
-            }
+            check_buffer(rt, buffer, sheet);
         }
+    }
+}
+
+fn check_buffer(rt: &impl Abort, buffer: &[u8], sheet: &[u8]) {
+    for (place, byte) in buffer.iter().enumerate() {
+        let expected = sheet.get(place).copied().unwrap_or(7);
+        assert_eq!(rt; *byte, expected, "place {place}");
     }
 }
 

@@ -46,7 +46,7 @@ const SIXTH: usize = 100;
 
 const END: usize = 111;
 
-// Two packages and one record of each other kind, all open.
+// Two packages and one offer of each other kind, all open.
 fn offered() -> Result<Offers, Refusal> {
     let mut offers = Offers::vacant();
     offers.file(1, Offer::Package(PACKAGE))?;

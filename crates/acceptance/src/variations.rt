@@ -1,4 +1,4 @@
-//! Variations of the worked rounds.
+//! Variations of the worked rounds: the eighth with a qualified package, and the tenth with a band that buys.
 use crate::fixtures::{
     Clearing, Told, band, check_answers, check_clearing, filing, four_packages, limit, package,
     six_bands, stack, unqualified,
