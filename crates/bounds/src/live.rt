@@ -1,11 +1,10 @@
 //! Which free packages of a block count: those that could be taken with the fixed ones. No lawful choice of the block takes another.
-ghost use Rattle.std.specs.List.{list_all};
-ghost use Rattle.std.specs.Prelude.{◌≡◌, true, nat_le};
+ghost use Rattle.std.specs.Prelude.{◌≡◌, true};
 ghost use Rattle.offers.specs.Marks.{sort_byte};
 ghost use Rattle.offers.specs.Tables.{package_layout};
 ghost use Rattle.clearing.specs.Choices.{taken};
 ghost use Rattle.clearing.specs.Lawful.{view};
-ghost use Rattle.clearing.specs.Ranges.{fits};
+ghost use Rattle.clearing.specs.Ranges.{fits, at_most, MOST_SUPPLY};
 ghost use Rattle.clearing.specs.Tallies.{row};
 ghost use Rattle.bounds.specs.Blocks.{span, InDocket};
 ghost use Rattle.bounds.specs.Rules.{live_ones};
@@ -104,8 +103,8 @@ fn tightest(docket: &Docket, sort: Sort) -> [u64; 16]
 // Whether the zones of a package have room for it beside the taken ones.
 fn has_room(interconnection: &[u64; 16], export: &[u64; 16], tally: &Tally, terms: &Package) -> bool
     requires fits { fits package_layout terms.now ≡ true }
-    requires nameplate { list_all (λ n. nat_le n 400000000) tally.now.nameplate ≡ true }
-    requires export { list_all (λ n. nat_le n 400000000) tally.now.export ≡ true }
+    requires nameplate { at_most MOST_SUPPLY tally.now.nameplate ≡ true }
+    requires export { at_most MOST_SUPPLY tally.now.export ≡ true }
     ensures { result ≡ room interconnection.now export.now tally.now terms.now }
 {
     let from = terms.interconnection_zone as usize - 1;

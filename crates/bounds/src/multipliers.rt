@@ -1,11 +1,10 @@
 //! The multipliers of a block: what a unit of each market is taken to be worth, found by halving between what the bands pay when all is
 //! supplied and when only the fixed packages are.
-ghost use Rattle.std.specs.List.{list_all};
-ghost use Rattle.std.specs.Prelude.{◌≡◌, ◌+◌, ◌-◌, ◌/◌, ◌≤◌, true, false, nat_le, nat_lt, pos, ◌≤ℤ◌, slice_index, slice_index_or, if◌then◌else◌, neg_ℤ};
+ghost use Rattle.std.specs.Prelude.{◌≡◌, ◌+◌, ◌-◌, ◌/◌, ◌≤◌, true, false, nat_lt, pos, ◌≤ℤ◌, slice_index, slice_index_or, if◌then◌else◌, neg_ℤ};
 ghost use Rattle.offers.specs.Tables.{package_layout};
 ghost use Rattle.clearing.specs.Choices.{taken, supplied, supply};
 ghost use Rattle.clearing.specs.Lawful.{view};
-ghost use Rattle.clearing.specs.Ranges.{fits, package_fits};
+ghost use Rattle.clearing.specs.Ranges.{fits, package_fits, at_most, MOST_SUPPLY};
 ghost use Rattle.clearing.specs.Tallies.{row, plus};
 ghost use Rattle.bounds.specs.Blocks.{span};
 ghost use Rattle.bounds.specs.Multipliers.{value_at, gain, gainful, asked_above, either, over_asked, price_at, unit_worth, middle, narrowed, widest, multipliers};
@@ -30,7 +29,7 @@ pub struct Between {
 pub(crate) fn multipliers(docket: &Docket, block: Block, base: &[u64; 5], live: u64) -> [u32; 5]
     requires { base.now ≡ row (λ m. supply m (fixed (view docket.now) (span block))) 1 5 }
     ensures value { result ≡ multipliers docket.now.bands.list.items (fixed (view docket.now) (span block)) (taken docket.now.packages.list.items live) }
-    ensures range { list_all (λ n. nat_le n 10000000) result ≡ true }
+    ensures range { at_most 10000000 result ≡ true }
 {
     let mut between = Between::widest(docket, block, base, live);
     for _turn in 0..TURNS {
@@ -110,8 +109,8 @@ fn pick(test: bool, yes: u32, no: u32) -> u32
 
 /// Two supplies of each market as one.
 pub(crate) fn together(one: &[u64; 5], other: &[u64; 5]) -> [u64; 5]
-    requires one { list_all (λ n. nat_le n 400000000) one.now ≡ true }
-    requires other { list_all (λ n. nat_le n 400000000) other.now ≡ true }
+    requires one { at_most MOST_SUPPLY one.now ≡ true }
+    requires other { at_most MOST_SUPPLY other.now ≡ true }
     ensures { result ≡ plus one.now other.now }
 {
     [

@@ -1,4 +1,5 @@
--- What a choice is worth, worked out: the rules of a lawful choice as tests.
+-- The rules of a lawful choice said again as tests, by which the code works out what a choice is worth. They are proved to be true
+-- exactly where the rules of `Lawful` hold (proofs/Judged), and `worth` carries what its answer says in words of those (`Worth`).
 use Rattle.std.specs.List.{list_all}
 use Rattle.std.specs.Prelude.{ℕ, ◌*◌, Bool, not, ◌&&◌, ◌||◌, List, [], ◌∷◌, ℤ, Some, None, Option, ◌==◌, nat_le, if◌then◌else◌}
 use Rattle.offers.specs.declared.records.Pair.{Pair}

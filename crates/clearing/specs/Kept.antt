@@ -1,4 +1,5 @@
--- The rules of lawfulness as the code tests them, over a tally's rows.
+-- The rules of a lawful choice said again over the sums of a tally, as the code tests them. They are proved to hold of the tally of a
+-- choice exactly where the tests of `Judging` are true of its packages (proofs/Tested, proofs/Judged).
 use Rattle.std.specs.Prelude.{◌≡◌, ℕ, ◌-◌, ◌*◌, ◌≤◌, Bool, true, false, List, slice_index, slice_index_or, ◌==◌, if◌then◌else◌}
 use Rattle.std.specs.List.{AllByRecursion as Every}
 use Rattle.offers.specs.declared.records.Pair.{Pair}

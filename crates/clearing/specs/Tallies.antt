@@ -1,6 +1,7 @@
 -- What the taken packages come to, set out as the code holds it.
+use Rattle.clearing.specs.Ranges.{at_most, MOST_SUPPLY}
 use Rattle.std.specs.List.{list_all, range_with_len}
-use Rattle.std.specs.Prelude.{◌≡◌, ℕ, zero, suc, ◌+◌, true, List, [], ◌∷◌, pos, ◌+ℤ◌, ◌≤ℤ◌, nat_le, slice_set, map, neg_ℤ}
+use Rattle.std.specs.Prelude.{◌≡◌, ℕ, zero, suc, ◌+◌, true, List, [], ◌∷◌, pos, ◌+ℤ◌, ◌≤ℤ◌, nat_le, slice_set, map, neg_ℤ, ◌-◌, ◌*◌}
 use Rattle.clearing.specs.declared.dockets.PricedPackage.{PricedPackage}
 use Rattle.clearing.specs.declared.tallies.Tally.{Tally}
 use Rattle.clearing.specs.Choices.{supply, dated, nameplates, exports, cost, has_number}
@@ -40,10 +41,10 @@ added t p = record {
 
 -- one package more can be added with no overflow: at most 39 are in already
 pub record Room (t : Tally) : Type 0 where
-  pub supply : list_all (λ n. nat_le n 390000000) t.supply ≡ true
-  pub before : list_all (λ n. nat_le n 390000000) t.before ≡ true
-  pub after : list_all (λ n. nat_le n 390000000) t.after ≡ true
-  pub nameplate : list_all (λ n. nat_le n 390000000) t.nameplate ≡ true
-  pub export : list_all (λ n. nat_le n 390000000) t.export ≡ true
-  pub low : neg_ℤ (pos 780000000000) ≤ℤ t.cost
-  pub high : t.cost ≤ℤ pos 780000000000
+  pub supply : at_most (MOST_SUPPLY - 10000000) t.supply ≡ true
+  pub before : at_most (MOST_SUPPLY - 10000000) t.before ≡ true
+  pub after : at_most (MOST_SUPPLY - 10000000) t.after ≡ true
+  pub nameplate : at_most (MOST_SUPPLY - 10000000) t.nameplate ≡ true
+  pub export : at_most (MOST_SUPPLY - 10000000) t.export ≡ true
+  pub low : neg_ℤ (pos (39 * 20000000000)) ≤ℤ t.cost
+  pub high : t.cost ≤ℤ pos (39 * 20000000000)

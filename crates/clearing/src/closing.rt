@@ -1,27 +1,28 @@
 //! Closing: the open records are copied into the docket, and each package is priced.
+ghost use Rattle.offers.specs.Tables.{PACKAGES};
 ghost use Rattle.std.specs.List.{list_all};
-ghost use Rattle.std.specs.Prelude.{◌≡◌, ℕ, ◌+◌, ◌-◌, ◌≤◌, true, ◌&&◌, ◌||◌, map, pos, IfOk, IfErr, Ok, Err, MatchResult, ◌==◌, nat_lt, slice_index_or};
+ghost use Rattle.std.specs.Prelude.{◌≡◌, ℕ, ◌+◌, ◌-◌, ◌≤◌, true, ◌&&◌, ◌||◌, map, pos, IfOk, IfErr, Ok, Err, MatchResult, ◌==◌, nat_lt, slice_index_or, ◌<◌};
 ghost use Rattle.offers.specs.Refusals.{Carries};
 ghost use Rattle.clearing.specs.Bands.{ahead_of, ahead_by};
 ghost use Rattle.clearing.specs.Closing.{PricesOpen, packages_at, no_price, open_from, open_records, open_bands};
-ghost use Rattle.clearing.specs.Ranges.{fits, price_fits, package_fits, band_fits};
+ghost use Rattle.clearing.specs.Ranges.{fits, price_fits, package_fits, band_fits, MOST_ASKED};
 
 use crate::bounded::BoundedVec;
 use crate::dockets::{OpenBand, PricedPackage};
-use offers::{Band, Code, Entry, Ledger, Package, Record, Refusal};
+use offers::{BANDS, Band, Code, Entry, Ledger, PACKAGES, Package, Record, Refusal};
 use pricing::PriceRule;
 
 /// The price of each open package, at its place in the register; the lowest-numbered one with a fault refuses.
 pub(crate) fn price_all<P: PriceRule>(
-    ledger: &Ledger<Package, 40>,
+    ledger: &Ledger<Package, PACKAGES>,
     rule: &mut P,
-) -> Result<[i64; 40], Refusal>
+) -> Result<[i64; PACKAGES], Refusal>
     ensures fit { IfOk result (λ ps. list_all price_fits ps ≡ true) }
     ensures answer { PricesOpen (P.PriceRule.meaning rule.old) ledger.now.entries result }
     ensures same_rule { P.PriceRule.meaning rule.new ≡ P.PriceRule.meaning rule.old }
     ensures carries { IfErr result Carries }
 {
-    let mut prices = [0i64; 40];
+    let mut prices = [0i64; PACKAGES];
     for (i, entry) in ledger.entries.iter().enumerate() {
         if let Entry::Open(package) = entry {
             match rule.price(package) {
@@ -35,7 +36,7 @@ pub(crate) fn price_all<P: PriceRule>(
 
 // A refusal of the package at a place of the register.
 fn price_fault(at: usize, depth: u8) -> Refusal
-    requires { at ≤ 39 }
+    requires { at < PACKAGES }
     ensures { result ≡ no_price (at + 1) (record { depth = depth }) }
 {
     Refusal {
@@ -48,9 +49,9 @@ fn price_fault(at: usize, depth: u8) -> Refusal
 
 /// Puts the open packages with their prices in the place of what was there.
 pub(crate) fn copy_packages(
-    ledger: &Ledger<Package, 40>,
-    prices: &[i64; 40],
-    into: &mut BoundedVec<PricedPackage, 40>,
+    ledger: &Ledger<Package, PACKAGES>,
+    prices: &[i64; PACKAGES],
+    into: &mut BoundedVec<PricedPackage, PACKAGES>,
 )
     requires prices_fit { list_all price_fits prices.now ≡ true }
     ensures fit { list_all package_fits into.new.list.items ≡ true }
@@ -69,7 +70,7 @@ pub(crate) fn copy_packages(
 }
 
 /// Puts the open bands in the place of what was there, each with what stands ahead of it.
-pub(crate) fn copy_bands(ledger: &Ledger<Band, 64>, into: &mut BoundedVec<OpenBand, 64>)
+pub(crate) fn copy_bands(ledger: &Ledger<Band, BANDS>, into: &mut BoundedVec<OpenBand, BANDS>)
     ensures fit { list_all band_fits into.new.list.items ≡ true }
     ensures items { into.new.list.items ≡ open_bands ledger.now.entries }
 {
@@ -86,9 +87,9 @@ pub(crate) fn copy_bands(ledger: &Ledger<Band, 64>, into: &mut BoundedVec<OpenBa
 }
 
 // The quantity of the open bands that are served before the band at a place of the register.
-fn ahead_of(ledger: &Ledger<Band, 64>, at: usize, band: &Band) -> u64
+fn ahead_of(ledger: &Ledger<Band, BANDS>, at: usize, band: &Band) -> u64
     ensures value { result ≡ ahead_of (open_from 1 ledger.now.entries) (record { number = at + 1; terms = band.now }) }
-    ensures bound { result ≤ 6400000000 }
+    ensures bound { result ≤ MOST_ASKED }
 {
     let mut ahead = 0u64;
     for (i, entry) in ledger.entries.iter().enumerate() {

@@ -8,7 +8,10 @@ ghost use Rattle.clearing.specs.Ranges.{fits, package_fits, band_fits};
 use crate::bounded::BoundedVec;
 use crate::choices::Taken;
 use crate::closing::{copy_bands, copy_open, copy_packages, price_all};
-use offers::{Band, Exclusion, Limit, Offers, Package, Pair, Refusal};
+use offers::{
+    BANDS, Band, EXCLUSIONS, Exclusion, LIMITS, Limit, Offers, PACKAGES, PAIRS, Package, Pair,
+    Refusal,
+};
 use pricing::PriceRule;
 use std::alloc::{AllocError, Global};
 
@@ -31,11 +34,11 @@ pub struct OpenBand {
 /// What was open at a closing, each kind by rising offer number. Its memory is got once, with the round.
 #[derive(Drop)]
 pub struct Docket {
-    pub packages: BoundedVec<PricedPackage, 40>,
-    pub bands: BoundedVec<OpenBand, 64>,
-    pub pairs: BoundedVec<Pair, 64>,
-    pub exclusions: BoundedVec<Exclusion, 64>,
-    pub limits: BoundedVec<Limit, 32>,
+    pub packages: BoundedVec<PricedPackage, PACKAGES>,
+    pub bands: BoundedVec<OpenBand, BANDS>,
+    pub pairs: BoundedVec<Pair, PAIRS>,
+    pub exclusions: BoundedVec<Exclusion, EXCLUSIONS>,
+    pub limits: BoundedVec<Limit, LIMITS>,
     ghost packages_fit: { list_all package_fits packages.list.items ≡ true },
     ghost bands_rise: { rising bands.list.items ≡ true },
     ghost bands_ahead: { aheads bands.list.items ≡ true_aheads bands.list.items },
@@ -82,6 +85,7 @@ impl Docket {
         ensures answer { result ≡ (closing (view self.old) (entries_in offers.now) (P.PriceRule.meaning rule.old)).answer }
         ensures after { view self.new ≡ (closing (view self.old) (entries_in offers.now) (P.PriceRule.meaning rule.old)).after }
         ensures same_rule { P.PriceRule.meaning rule.new ≡ P.PriceRule.meaning rule.old }
+        // what a docket of a closing is, in words of the subject: laws of the definition that this call only carries
         ensures by_closing { result ≡ Ok tt → ByClosing (view self.new) }
         ensures of_open { result ≡ Ok tt → OfOpen (entries_in offers.now) (P.PriceRule.meaning rule.old) (view self.new) }
         ensures carries { IfErr result Carries }

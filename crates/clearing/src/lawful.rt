@@ -1,5 +1,4 @@
 //! Whether a choice keeps the rules.
-ghost use Rattle.std.specs.List.{list_all};
 ghost use Rattle.std.specs.Prelude.{◌≡◌, ℕ, ◌-◌, ◌*◌, ◌≤◌, true, List, if◌then◌else◌, nat_eq, nat_le, slice_index, IsTrue, ◌↔◌};
 ghost use Rattle.offers.specs.Tables.{limit_layout};
 ghost use Rattle.clearing.specs.Filling.{BestFilled};
@@ -7,7 +6,7 @@ ghost use Rattle.clearing.specs.Judging.{dates_stand, worth_of};
 ghost use Rattle.clearing.specs.Kept.{PairsKept, ExclusionsKept, ZonesKept, DatesKept, zone_load};
 ghost use Rattle.clearing.specs.Lawful.{view, Lawful, Worth, filled_sales, percentage};
 ghost use Rattle.clearing.specs.Tallies.{row};
-ghost use Rattle.clearing.specs.Ranges.{fits};
+ghost use Rattle.clearing.specs.Ranges.{fits, at_most, MOST_SUPPLY, MOST_ASKED};
 
 use crate::dockets::Docket;
 use crate::sales::{Sales, sell};
@@ -70,7 +69,7 @@ fn zone_load(limit: &Limit, tally: &Tally) -> u64
 // of each, or 100.
 fn percentages(docket: &Docket) -> [u64; 4]
     ensures value { result ≡ row (percentage docket.now.limits.list.items) 1 4 }
-    ensures bound { list_all (λ n. nat_le n 100) result ≡ true }
+    ensures bound { at_most 100 result ≡ true }
 {
     let mut least = [100u64; 4];
     for limit in docket.limits.list.iter() {
@@ -85,8 +84,8 @@ fn percentages(docket: &Docket) -> [u64; 4]
 // Whether what dated packages supply to a market is at most a percentage of what is sold there.
 fn share_kept(percent: u64, dated: &[u64; 5], sold: &[u64; 5], market: usize) -> bool
     requires percent { percent ≤ 100 }
-    requires dated { list_all (λ n. nat_le n 400000000) dated.now ≡ true }
-    requires sold { list_all (λ n. nat_le n 6400000000) sold.now ≡ true }
+    requires dated { at_most MOST_SUPPLY dated.now ≡ true }
+    requires sold { at_most MOST_ASKED sold.now ≡ true }
     requires first { 1 ≤ market }
     requires last { market ≤ 5 }
     ensures { result ≡ nat_le (100 * slice_index dated.now (market - 1)) (percent * slice_index sold.now (market - 1)) }
@@ -96,9 +95,9 @@ fn share_kept(percent: u64, dated: &[u64; 5], sold: &[u64; 5], market: usize) ->
 
 // Whether dated packages keep their percentages, in each market of power and in that of certificates.
 fn dates_kept(docket: &Docket, tally: &Tally, sales: &Sales) -> bool
-    requires before { list_all (λ n. nat_le n 400000000) tally.now.before ≡ true }
-    requires after { list_all (λ n. nat_le n 400000000) tally.now.after ≡ true }
-    requires sold { list_all (λ n. nat_le n 6400000000) sales.now.sold ≡ true }
+    requires before { at_most MOST_SUPPLY tally.now.before ≡ true }
+    requires after { at_most MOST_SUPPLY tally.now.after ≡ true }
+    requires sold { at_most MOST_ASKED sales.now.sold ≡ true }
     ensures { IsTrue result ↔ (DatesKept docket.now.limits.list.items tally.now sales.now.sold) }
 {
     let least = percentages(docket);
@@ -124,6 +123,7 @@ pub fn dates_stand(docket: &Docket, first: u64, last: u64) -> bool
 pub fn worth(docket: &Docket, choice: u64) -> Option<i64>
     ensures value { result ≡ worth_of (view docket.now) choice }
     ensures worth { Worth (view docket.now) choice result }
+    // why filled sales are the sales to take, a law of every choice that this call only carries
     ensures best_filled { BestFilled (view docket.now) choice }
 {
     let tally = Tally::new(docket, choice);

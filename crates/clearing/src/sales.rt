@@ -1,10 +1,12 @@
 //! What a supply sells: the bands are filled by falling price, equal prices by rising number.
 ghost use Rattle.std.specs.Prelude.{◌≡◌, true, map, slice_index};
+ghost use Rattle.offers.specs.Tables.{BANDS};
 ghost use Rattle.clearing.specs.Ranges.{band_fits};
 ghost use Rattle.clearing.specs.Tallies.{row};
 ghost use Rattle.clearing.specs.Sales.{filled, sale_of, sales_of};
 
 use crate::dockets::{Docket, OpenBand};
+use offers::BANDS;
 
 /// What is sold in each market, and what it brings in pesos. Market m stands at place m - 1, in an array as in `Tally`.
 #[derive(Clone, Copy)]
@@ -49,10 +51,10 @@ pub fn sell(docket: &Docket, supply: &[u64; 5]) -> Sales
 }
 
 /// What each band is sold by its offer number, number n at place n - 1; 0 for a number that is not open.
-pub fn sales_row(docket: &Docket, supply: &[u64; 5]) -> [u64; 64]
-    ensures { result ≡ row (sale_of docket.now.bands.list.items supply.now) 1 64 }
+pub fn sales_row(docket: &Docket, supply: &[u64; 5]) -> [u64; BANDS]
+    ensures { result ≡ row (sale_of docket.now.bands.list.items supply.now) 1 BANDS }
 {
-    let mut row = [0u64; 64];
+    let mut row = [0u64; BANDS];
     for band in docket.bands.list.iter() {
         row[band.number as usize - 1] = sale(supply, band);
     }

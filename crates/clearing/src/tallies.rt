@@ -1,8 +1,7 @@
 //! What the taken packages of a choice come to, in one pass over the docket.
-ghost use Rattle.std.specs.List.{list_all};
-ghost use Rattle.std.specs.Prelude.{◌≡◌, true, nat_le};
+ghost use Rattle.std.specs.Prelude.{◌≡◌, true, ◌-◌};
 ghost use Rattle.clearing.specs.Choices.{taken, supplied, supply};
-ghost use Rattle.clearing.specs.Ranges.{package_fits};
+ghost use Rattle.clearing.specs.Ranges.{package_fits, at_most, MOST_SUPPLY};
 ghost use Rattle.clearing.specs.Tallies.{tally_of, Room, added, row, plus};
 
 use crate::dockets::{Docket, PricedPackage};
@@ -87,7 +86,7 @@ pub fn supply_of(docket: &Docket, choice: u64) -> [u64; 5]
 
 // Adds what a package supplies to each market.
 fn add_supply(supply: &mut [u64; 5], more: &PricedPackage)
-    requires room { list_all (λ n. nat_le n 390000000) supply.old ≡ true }
+    requires room { at_most (MOST_SUPPLY - 10000000) supply.old ≡ true }
     requires fits { package_fits more.now ≡ true }
     ensures { supply.new ≡ plus supply.old (row (λ m. supplied m more.now.terms) 1 5) }
 {

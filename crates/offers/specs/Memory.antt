@@ -16,7 +16,7 @@ use Rattle.offers.specs.declared.memory.Offers.{Offers}
 use Rattle.offers.specs.Layouts.{Layout}
 use Rattle.offers.specs.Refusals.{Carries}
 use Rattle.offers.specs.Registers.{Outcome, filing, withdrawing, Onward, InRange}
-use Rattle.offers.specs.Tables.{package_layout, band_layout, pair_layout, exclusion_layout, limit_layout}
+use Rattle.offers.specs.Tables.{package_layout, band_layout, pair_layout, exclusion_layout, limit_layout, PACKAGES, BANDS, PAIRS, EXCLUSIONS, LIMITS}
 
 -- The entries of all kinds, as plain lists: number n of a kind at place n - 1.
 pub record Entries : Type 0 where
@@ -70,11 +70,11 @@ with_entries all kind.Limit es = record { packages = all.packages; bands = all.b
 -- every number of every kind is vacant
 abbrev pub all_vacant : Entries
 all_vacant = record {
-  packages = replicate 40 Vacant;
-  bands = replicate 64 Vacant;
-  pairs = replicate 64 Vacant;
-  exclusions = replicate 64 Vacant;
-  limits = replicate 32 Vacant;
+  packages = replicate PACKAGES Vacant;
+  bands = replicate BANDS Vacant;
+  pairs = replicate PAIRS Vacant;
+  exclusions = replicate EXCLUSIONS Vacant;
+  limits = replicate LIMITS Vacant;
 }
 
 -- entries as a round holds them: each number of each kind has one, and every record is in range

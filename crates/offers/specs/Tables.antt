@@ -1,5 +1,5 @@
 -- The five kinds of record, each a table of its fields from the left: bytes, field, least, greatest.
-use Rattle.std.specs.Prelude.{not, ◌&&◌, List, [], ◌∷◌, ◌==◌, slice_index, if◌then◌else◌}
+use Rattle.std.specs.Prelude.{not, ◌&&◌, List, [], ◌∷◌, ◌==◌, slice_index, if◌then◌else◌, ℕ}
 use Rattle.offers.specs.Fields.{Field, plain, within}
 use Rattle.offers.specs.Layouts.{Layout}
 use Rattle.offers.specs.declared.records.Package.{Package}
@@ -7,6 +7,22 @@ use Rattle.offers.specs.declared.records.Band.{Band}
 use Rattle.offers.specs.declared.records.Pair.{Pair}
 use Rattle.offers.specs.declared.records.Exclusion.{Exclusion}
 use Rattle.offers.specs.declared.records.Limit.{Limit}
+
+-- the offer numbers of each kind are 1 to this
+abbrev pub PACKAGES : ℕ
+PACKAGES = 40
+
+abbrev pub BANDS : ℕ
+BANDS = 64
+
+abbrev pub PAIRS : ℕ
+PAIRS = 64
+
+abbrev pub EXCLUSIONS : ℕ
+EXCLUSIONS = 64
+
+abbrev pub LIMITS : ℕ
+LIMITS = 32
 
 -- power in MW, energy in MWh and certificates by the year, nameplate in MW, price in pesos;
 -- date: 0 standard, 1 before, 2 after; unqualified: 1 without connection priority; dollar: 1 indexed to dollars
@@ -37,11 +53,11 @@ band_fields =
 -- a package that is taken only with another, the needed one
 abbrev pub pair_fields : List (Field Pair)
 pair_fields =
-    plain 1 (λ p. p.dependent) 1 40
+    plain 1 (λ p. p.dependent) 1 PACKAGES
     ∷ record {
       width = 1;
       value = λ p. p.needed;
-      allowed = λ p. within 1 40 p.needed && not (p.needed == p.dependent);
+      allowed = λ p. within 1 PACKAGES p.needed && not (p.needed == p.dependent);
     }
     ∷ []
 
@@ -49,7 +65,7 @@ pair_fields =
 abbrev pub exclusion_fields : List (Field Exclusion)
 exclusion_fields =
     plain 1 (λ e. e.group) 1 16
-    ∷ plain 1 (λ e. e.member) 1 40
+    ∷ plain 1 (λ e. e.member) 1 PACKAGES
     ∷ []
 
 -- sort: 1 interconnection (amount in MW), 2 export (amount in MWh), 3 percentage;
@@ -72,7 +88,7 @@ limit_fields =
 abbrev pub package_layout : Layout Package
 package_layout = record {
   tag = 1;
-  count = 40;
+  count = PACKAGES;
   fields = package_fields;
   record_of = λ vs. record {
     power = slice_index vs 0;
@@ -93,7 +109,7 @@ package_layout = record {
 abbrev pub band_layout : Layout Band
 band_layout = record {
   tag = 2;
-  count = 64;
+  count = BANDS;
   fields = band_fields;
   record_of = λ vs. record { market = slice_index vs 0; quantity = slice_index vs 1; price = slice_index vs 2 };
 }
@@ -101,7 +117,7 @@ band_layout = record {
 abbrev pub pair_layout : Layout Pair
 pair_layout = record {
   tag = 3;
-  count = 64;
+  count = PAIRS;
   fields = pair_fields;
   record_of = λ vs. record { dependent = slice_index vs 0; needed = slice_index vs 1 };
 }
@@ -109,7 +125,7 @@ pair_layout = record {
 abbrev pub exclusion_layout : Layout Exclusion
 exclusion_layout = record {
   tag = 4;
-  count = 64;
+  count = EXCLUSIONS;
   fields = exclusion_fields;
   record_of = λ vs. record { group = slice_index vs 0; member = slice_index vs 1 };
 }
@@ -117,7 +133,7 @@ exclusion_layout = record {
 abbrev pub limit_layout : Layout Limit
 limit_layout = record {
   tag = 5;
-  count = 32;
+  count = LIMITS;
   fields = limit_fields;
   record_of = λ vs. record { sort = slice_index vs 0; zone = slice_index vs 1; amount = slice_index vs 2 };
 }

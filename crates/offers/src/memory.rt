@@ -15,14 +15,29 @@ pub enum Offer {
     Limit(Limit),
 }
 
+/// The offer numbers of packages are 1 to this.
+pub const PACKAGES: usize = 40;
+
+/// Those of bands.
+pub const BANDS: usize = 64;
+
+/// Those of pairs.
+pub const PAIRS: usize = 64;
+
+/// Those of exclusions.
+pub const EXCLUSIONS: usize = 64;
+
+/// Those of limits.
+pub const LIMITS: usize = 32;
+
 /// The entries of all kinds.
 #[derive(Clone, Copy)]
 pub struct Offers {
-    pub packages: Ledger<Package, 40>,
-    pub bands: Ledger<Band, 64>,
-    pub pairs: Ledger<Pair, 64>,
-    pub exclusions: Ledger<Exclusion, 64>,
-    pub limits: Ledger<Limit, 32>,
+    pub packages: Ledger<Package, PACKAGES>,
+    pub bands: Ledger<Band, BANDS>,
+    pub pairs: Ledger<Pair, PAIRS>,
+    pub exclusions: Ledger<Exclusion, EXCLUSIONS>,
+    pub limits: Ledger<Limit, LIMITS>,
 }
 
 impl Offers {

@@ -13,6 +13,7 @@ use offers::{Code, Entry, Offers, Record, Refusal};
 pub fn write_sheet(offers: &Offers, buffer: &mut [u8]) -> Result<usize, Refusal>
     ensures answer { result ≡ (write_sheet (entries_in offers.now) buffer.old).answer }
     ensures after { buffer.new ≡ (write_sheet (entries_in offers.now) buffer.old).buffer }
+    // what the sheet is to every round, a law of the entries that this call only carries
     ensures faithful { Faithful (entries_in offers.now) }
     ensures carries { IfErr result Carries }
 {
@@ -31,6 +32,7 @@ pub fn write_sheet(offers: &Offers, buffer: &mut [u8]) -> Result<usize, Refusal>
 /// The bytes of the offers' sheet, which is written from sound entries.
 pub fn sheet_length(offers: &Offers) -> usize
     ensures value { result ≡ length (sheet_of (entries_in offers.now)) }
+    // what any offers are, which this call only tells
     ensures sound { Sound (entries_in offers.now) }
 {
     register_length(&offers.packages.entries)

@@ -21,7 +21,6 @@ use Rattle.bounds.specs.Rules.{last_of, fixed, possible, ceiling, always, all_in
 use Rattle.bounds.specs.Laws.AllIn.{cost-least}
 use Rattle.bounds.specs.Laws.Parts.{Part, first_part, last_part}
 
-
 module _ (v : View) (ranged : Ranged v) where
   -- no lawful surplus is above the ceiling
   pub surplus-few : (choice : ℕ) (sales : List ℕ) → Lawful v choice sales → surplus v choice sales ≤ℤ ceiling

@@ -20,7 +20,6 @@ use Rattle.bounds.specs.Blocks.{Span, InDocket, InBlock, Claims}
 use Rattle.bounds.specs.Rules.{last_of, fixed, possible, ceiling, always, all_in, limits_kept, shares_kept, smaller}
 use Rattle.bounds.specs.Laws.AllIn.{cost-least}
 use Rattle.bounds.specs.Laws.Parts.{Part, first_part, last_part}
-
 use Rattle.bounds.specs.Laws.Ceiling.{surplus-few}
 
 module _ (v : View) (ranged : Ranged v) (b : Span) (block : InDocket v b) where

@@ -13,7 +13,6 @@ use Rattle.bounds.specs.Laws.Joined.{smaller-sound}
 use Rattle.bounds.specs.Laws.OneByOne.{one_by_one-sound}
 use Rattle.bounds.specs.Laws.Tangent.{tangent-sound}
 
-
 -- each rule by itself is
 pub named-sound : (name : Named) → SoundRule (named name)
 named-sound Ceiling v b closed block = always-sound v (ranged-closing v closed) b
@@ -22,4 +21,3 @@ named-sound OneByOne v b closed block = one_by_one-sound v (ranged-closing v clo
 named-sound Limits v b closed block = limits-sound v (ranged-closing v closed) b block
 named-sound Shares v b closed block = shares-sound v (ranged-closing v closed) b block
 named-sound Tangent v b closed block = tangent-sound v (ranged-closing v closed) b block
-
