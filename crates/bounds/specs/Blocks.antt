@@ -2,15 +2,11 @@
 use Rattle.std.specs.Prelude.{◌≡◌, ℕ, ◌+◌, ◌%◌, ◌^◌, ◌<◌, ◌≤◌, List, length, ℤ, ◌≤ℤ◌, Some, None, Option}
 use Rattle.clearing.specs.Closing.{ByClosing}
 use Rattle.clearing.specs.Lawful.{View, Lawful, surplus, choices}
-use Rattle.bounds.specs.declared.blocks.Block.{Block}
 
 -- A block as plain numbers: its first choice, and how many of its lowest digits are free.
 pub record Span : Type 0 where
   pub first : ℕ
   pub free : ℕ
-
-abbrev pub span : Block → Span
-span b = record { first = b.first; free = b.free }
 
 -- a block of a docket: its first choice is one of the docket's, and has a 0 for each free digit
 pub record InDocket (v : View) (b : Span) : Type 0 where

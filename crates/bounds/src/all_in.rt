@@ -2,7 +2,6 @@
 ghost use Rattle.std.specs.Prelude.{◌≡◌, pos, ◌+ℤ◌, ◌≤ℤ◌, neg_ℤ};
 ghost use Rattle.clearing.specs.Choices.{cost};
 ghost use Rattle.clearing.specs.Lawful.{view};
-ghost use Rattle.bounds.specs.Blocks.{span};
 ghost use Rattle.bounds.specs.Rules.{all_in, fixed, free_ones, below_zero};
 ghost use Rattle.clearing.proofs.ClosedRanges.{ranged-closing};
 ghost use Rattle.bounds.specs.Laws.AllIn.{all_in-sound};
@@ -27,7 +26,7 @@ impl BoundingRule for AllIn {
 
 // The prices of the taken packages, and of the free ones those below 0, in pesos.
 fn least_cost(docket: &Docket, block: Block) -> i64
-    ensures value { result ≡ cost (fixed (view docket.now) (span block)) +ℤ below_zero (free_ones (view docket.now) (span block)) }
+    ensures value { result ≡ cost (fixed (view docket.now) block) +ℤ below_zero (free_ones (view docket.now) block) }
     ensures low { neg_ℤ (pos 1600000000000) ≤ℤ result }
     ensures high { result ≤ℤ pos 800000000000 }
 {

@@ -1,24 +1,33 @@
 //! A block of choices, and what every bounding rule owes.
 ghost use Rattle.std.specs.Prelude.{◌≡◌, ◌^◌, ◌<◌, ◌≤◌};
+ghost use Rattle.bounds.specs.Blocks.{Span};
 
 use clearing::Docket;
+use std::marker::Model;
 
 /// The choices that differ from the first in its lowest digits only: as many as are free, 0 in it.
 #[derive(Clone, Copy)]
 pub struct Block {
     pub first: u64,
     pub free: u8,
-    ghost low: { first < 2 ^ 40 },
-    ghost few: { free ≤ 40 },
+}
+
+impl Model for Block {
+    ghost Value = { Span };
+
+    ghost view = { λ b. record { first = b.first; free = b.free } };
+
+    ghost invariant = { λ b. record { low : b.first < 2 ^ 40; few : b.free ≤ 40 } };
+
+    ghost inverse = { λ b. record { first = b.first; free = b.free } };
 }
 
 impl Block {
-    ghost use Rattle.bounds.specs.Blocks.{span};
     ghost use Rattle.bounds.specs.Rules.{last_of};
 
     /// The choice of the block that takes all free packages.
     pub fn last(self) -> u64
-        ensures { result ≡ last_of (span self) }
+        ensures { result ≡ last_of self }
     {
         self.first + ((1u64 << self.free) - 1)
     }
@@ -32,12 +41,12 @@ pub const CEILING: i64 = 100_000_000_000_000_000;
 /// meaning.
 pub trait BoundingRule {
     ghost use Rattle.clearing.specs.Lawful.{view};
-    ghost use Rattle.bounds.specs.Blocks.{span, Answers, SoundRule, InDocket};
+    ghost use Rattle.bounds.specs.Blocks.{Answers, SoundRule, InDocket};
 
     ghost answers: { Self → Answers };
 
     fn consult(&mut self, docket: &Docket, block: Block) -> Option<i64>
-        ensures answer { InDocket (view docket.now) (span block) → result ≡ answers self.old (view docket.now) (span block) }
+        ensures answer { InDocket (view docket.now) block → result ≡ answers self.old (view docket.now) block }
         ensures same { answers self.new ≡ answers self.old };
 
     ghost sound: { (s : Self) → SoundRule (answers s) };

@@ -6,7 +6,6 @@ ghost use Rattle.clearing.specs.Choices.{taken, supplied, supply};
 ghost use Rattle.clearing.specs.Lawful.{view};
 ghost use Rattle.clearing.specs.Ranges.{fits, package_fits, at_most, MOST_SUPPLY};
 ghost use Rattle.clearing.specs.Tallies.{row, plus};
-ghost use Rattle.bounds.specs.Blocks.{span};
 ghost use Rattle.bounds.specs.Multipliers.{value_at, gain, gainful, asked_above, either, over_asked, price_at, unit_worth, middle, narrowed, widest, multipliers};
 ghost use Rattle.bounds.specs.Rules.{fixed};
 
@@ -27,8 +26,8 @@ pub struct Between {
 /// The multipliers of a block, whose fixed packages supply `base`, and where `live` is the choice of those of its free packages that
 /// count.
 pub(crate) fn multipliers(docket: &Docket, block: Block, base: &[u64; 5], live: u64) -> [u32; 5]
-    requires { base.now ≡ row (λ m. supply m (fixed (view docket.now) (span block))) 1 5 }
-    ensures value { result ≡ multipliers docket.now.bands.list.items (fixed (view docket.now) (span block)) (taken docket.now.packages.list.items live) }
+    requires { base.now ≡ row (λ m. supply m (fixed (view docket.now) block)) 1 5 }
+    ensures value { result ≡ multipliers docket.now.bands.list.items (fixed (view docket.now) block) (taken docket.now.packages.list.items live) }
     ensures range { at_most 10000000 result ≡ true }
 {
     let mut between = Between::widest(docket, block, base, live);
@@ -41,8 +40,8 @@ pub(crate) fn multipliers(docket: &Docket, block: Block, base: &[u64; 5], live: 
 impl Between {
     // What the first band pays that is not filled by all, and by the fixed alone.
     fn widest(docket: &Docket, block: Block, base: &[u64; 5], live: u64) -> Between
-        requires { base.now ≡ row (λ m. supply m (fixed (view docket.now) (span block))) 1 5 }
-        ensures { result ≡ widest docket.now.bands.list.items (fixed (view docket.now) (span block)) (taken docket.now.packages.list.items live) }
+        requires { base.now ≡ row (λ m. supply m (fixed (view docket.now) block)) 1 5 }
+        ensures { result ≡ widest docket.now.bands.list.items (fixed (view docket.now) block) (taken docket.now.packages.list.items live) }
     {
         let free = supply_of(docket, live);
         let all = together(base, &free);
@@ -67,8 +66,8 @@ impl Between {
 
     // The half where they are looked for next.
     fn narrowed(self, docket: &Docket, block: Block, base: &[u64; 5], live: u64) -> Between
-        requires { base.now ≡ row (λ m. supply m (fixed (view docket.now) (span block))) 1 5 }
-        ensures { result ≡ narrowed docket.now.bands.list.items (fixed (view docket.now) (span block)) (taken docket.now.packages.list.items live) self }
+        requires { base.now ≡ row (λ m. supply m (fixed (view docket.now) block)) 1 5 }
+        ensures { result ≡ narrowed docket.now.bands.list.items (fixed (view docket.now) block) (taken docket.now.packages.list.items live) self }
     {
         let middle = self.middle();
         let worthwhile = supply_of(docket, gainful_choice(docket, &middle, live));

@@ -4,7 +4,6 @@ ghost use Rattle.std.specs.Prelude.{◌≡◌, ◌≤◌, pos, ◌≤ℤ◌};
 ghost use Rattle.clearing.specs.Choices.{taken};
 ghost use Rattle.clearing.specs.Lawful.{view};
 ghost use Rattle.clearing.specs.Tallies.{tally_of};
-ghost use Rattle.bounds.specs.Blocks.{span};
 ghost use Rattle.bounds.specs.Rules.{fixed, sold_above, gains_above, tangent_by, tangent};
 ghost use Rattle.clearing.proofs.ClosedRanges.{ranged-closing};
 ghost use Rattle.bounds.specs.Laws.Tangent.{tangent-sound};
@@ -39,8 +38,8 @@ pub(crate) fn cap(
     live: u64,
     multipliers: &[u32; 5],
 ) -> i64
-    requires { first.now ≡ tally_of (fixed (view docket.now) (span block)) }
-    ensures { result ≡ tangent_by multipliers.now (taken docket.now.packages.list.items live) (view docket.now) (span block) }
+    requires { first.now ≡ tally_of (fixed (view docket.now) block) }
+    ensures { result ≡ tangent_by multipliers.now (taken docket.now.packages.list.items live) (view docket.now) block }
 {
     let sales = sell(docket, &first.supply);
     let surplus = sales.income as i64 - first.cost;

@@ -16,7 +16,7 @@ use Rattle.clearing.specs.Ranges.{package_fits}
 use Rattle.clearing.proofs.Fits.{each_take, priced_ranges}
 use Rattle.clearing.proofs.Ranged.{ranged_docket}
 use Rattle.clearing.proofs.Takings.{walk, next-room, next-fits, next-added, taken-priced}
-use Rattle.bounds.specs.Blocks.{Span, span}
+use Rattle.bounds.specs.Blocks.{Span}
 use Rattle.bounds.specs.Rules.{fixed, free_ones, below_zero}
 use Rattle.bounds.proofs.all_in.least_cost.Goals as goal
 
@@ -77,14 +77,14 @@ loop-package-preserved c =
 
 pub loop-free-init : goal.loop-free-init
 loop-free-init c =
-    let all = fixed (view c.args.docket.now) (span c.args.block) in
-    let t = YieldsList-end (walk c.args.docket.now c.args.block.first c.into_iter-package-iterator.result cc) c.loop-package.yielded _ c.loop-package.yielded_by _ c.next.new.self c.in-None.is c.next.ensures.steps in
+    let all = fixed (view c.args.docket.now) c.args.block in
+    let t = YieldsList-end (walk c.args.docket.now c.args.block.first c.into_iter-package-iterator.result (rw (← ap (λ (b : Span). b.first) c.block.view_is) cc)) c.loop-package.yielded _ c.loop-package.yielded_by _ c.next.new.self c.in-None.is c.next.ensures.steps in
     omega (arith, ints, c.loop-package.invariant, ap (λ n. cost (take n all)) t.1, ap cost (take-length all))
 
 pub overflow_add-cost-in-loop-free : goal.overflow_add-cost-in-loop-free
 overflow_add-cost-in-loop-free c =
     let d = c.args.docket.now in
-    let b = span c.args.block in
+    let b = c.args.block in
     let road = YieldsList-from_take {s = c.into_iter-free-iterator.result} b.free (YieldsList-from_slice (vec_items d.packages.list) cc) cc in
     let t = YieldsList-turn road c.loop-free.yielded _ c.loop-free.yielded_by _ c.next-in-loop-free.new.self c.in-Some-free.free c.in-Some-free.is c.next-in-loop-free.ensures.steps in
     let next = free-next (free_ones (view d) b) _ c.in-Some-free.free.now t in
@@ -95,7 +95,7 @@ overflow_add-cost-in-loop-free c =
 pub loop-free-preserved : goal.loop-free-preserved
 loop-free-preserved c =
     let d = c.args.docket.now in
-    let b = span c.args.block in
+    let b = c.args.block in
     let road = YieldsList-from_take {s = c.into_iter-free-iterator.result} b.free (YieldsList-from_slice (vec_items d.packages.list) cc) cc in
     let t = YieldsList-turn road c.loop-free.yielded _ c.loop-free.yielded_by _ c.next-in-loop-free.new.self c.in-Some-free.free c.in-Some-free.is c.next-in-loop-free.ensures.steps in
     let next = free-next (free_ones (view d) b) _ c.in-Some-free.free.now t in
@@ -105,12 +105,12 @@ loop-free-preserved c =
 
 pub returns-clause-low : goal.returns-clause-low
 returns-clause-low c =
-    let between = free-between c.args.docket.now (span c.args.block) (length c.loop-free.yielded) in
+    let between = free-between c.args.docket.now c.args.block (length c.loop-free.yielded) in
     let priced = taken-priced c.args.docket.now c.args.block.first in
     omega (arith, ints, c.loop-free.invariant)
 
 pub returns-clause-high : goal.returns-clause-high
 returns-clause-high c =
-    let between = free-between c.args.docket.now (span c.args.block) (length c.loop-free.yielded) in
+    let between = free-between c.args.docket.now c.args.block (length c.loop-free.yielded) in
     let priced = taken-priced c.args.docket.now c.args.block.first in
     omega (arith, ints, c.loop-free.invariant)

@@ -16,7 +16,6 @@ use Rattle.clearing.proofs.Held.{no_package}
 use Rattle.clearing.proofs.Ranged.{ranged_docket}
 use Rattle.clearing.proofs.Takings.{taken-bounded}
 use Rattle.clearing.proofs.Tallying.{Bounded}
-use Rattle.bounds.specs.Blocks.{span}
 use Rattle.bounds.specs.Rules.{fixed, possible, free_ones, joins}
 use Rattle.bounds.specs.Live.{cleared, unopposed, tightest, room}
 use Rattle.bounds.specs.Laws.Splits.{taken_none}
@@ -56,27 +55,28 @@ pub returns-then-not-stands : goal.returns-then-not-stands
 returns-then-not-stands c block =
     let d = c.args.docket.now in
     let v = view d in
-    let b = span c.args.block in
+    let b = c.args.block in
+    let firsts = c.new-fixed.ensures ∙ ap (λ b. tally_of (fixed v b)) c.block.view_is in
     let others = c.new-possible.ensures ∙ ap (λ n. tally_of (taken v.packages n)) c.last.ensures in
     taken_none v.packages
-    ∙ sym (none-joins d (fixed v b) (possible v b) (sym (c.stands.ensures (fixed v b) (possible v b) c.new-fixed.ensures others) ∙ c.if-not-stands.true) (free_ones v b))
+    ∙ sym (none-joins d (fixed v b) (possible v b) (sym (c.stands.ensures (fixed v b) (possible v b) firsts others) ∙ c.if-not-stands.true) (free_ones v b))
 
 pub loop-place-init : goal.loop-place-init
 loop-place-init c = record { bound = omega arith; value = λ block. taken_none (vec_items c.args.docket.now.packages.list) }
 
 pub has_room-requires-clause-nameplate : goal.has_room-requires-clause-nameplate
 has_room-requires-clause-nameplate c =
-    (subst (Bounded 400000000) (sym c.new-fixed.ensures) (taken-bounded c.args.docket.now c.args.block.first)).nameplate
+    (subst (Bounded 400000000) (sym c.new-fixed.ensures) (taken-bounded c.args.docket.now c.block.inside.first)).nameplate
 
 pub has_room-requires-clause-export : goal.has_room-requires-clause-export
 has_room-requires-clause-export c =
-    (subst (Bounded 400000000) (sym c.new-fixed.ensures) (taken-bounded c.args.docket.now c.args.block.first)).export
+    (subst (Bounded 400000000) (sym c.new-fixed.ensures) (taken-bounded c.args.docket.now c.block.inside.first)).export
 
 pub loop-place-preserved : goal.loop-place-preserved
 loop-place-preserved c =
     let d = c.args.docket.now in
     let v = view d in
-    let b = span c.args.block in
+    let b = c.args.block in
     let ps = vec_items d.packages.list in
     let test = joins v (fixed v b) (possible v b) in
     let held = c.deref-package-items.ensures.value in
@@ -88,11 +88,13 @@ loop-place-preserved c =
     let next : 2 ^ (i + 1) ≡ 2 * 2 ^ i = rw (add-one i) (pow-succ' 2 i) in
     let p = get_or ps i no_package in
     let same = ap (λ qs. get_or qs i no_package) held in
+    let free : c.block-2.inside.free ≡ b.free = ap (λ b. b.free) c.block-2.view_is in
+    let firsts = c.new-fixed.ensures ∙ ap (λ b. tally_of (fixed v b)) c.block.view_is in
     let others = c.new-possible.ensures ∙ ap (λ n. tally_of (taken ps n)) c.last.ensures in
-    let bounded = subst (Bounded 400000000) (sym c.new-fixed.ensures) (taken-bounded d c.args.block.first) in
+    let bounded = subst (Bounded 400000000) (sym firsts) (taken-bounded d b.first) in
     let says =
-    joins-passed d (fixed v b) (possible v b) c.new-fixed.result c.new-possible.result c.new-fixed.ensures others bounded
-    (sym (c.stands.ensures (fixed v b) (possible v b) c.new-fixed.ensures others) ∙ c.if-not-stands.false) p
+    joins-passed d (fixed v b) (possible v b) c.new-fixed.result c.new-possible.result firsts others bounded
+    (sym (c.stands.ensures (fixed v b) (possible v b) firsts others) ∙ c.if-not-stands.false) p
     (each_getD package_fits ps i no_package inside d.packages_fit) in
     let xs = vec_items d.exclusions.list in
     let ls = vec_items d.limits.list in
@@ -117,18 +119,18 @@ loop-place-preserved c =
                 ap (taken ps) sum
                 ∙ taken_with ps i c.loop-place.live before.bound no_package inside
                 ∙ ap (λ qs. qs ++ p ∷ []) (before.value block)
-                ∙ sym (kept-there test ps b.free i inside w.if-place-block.true joined);
+                ∙ sym (kept-there test ps b.free i inside (omega (arith, free, w.if-place-block.true)) joined);
           }
       | else-place-block w ↦
           let same_ones : filter test (take (i + 1) (take b.free ps)) ≡ filter test (take i (take b.free ps)) =
           elim w.else-place-block.branch [
             | else-place-block-via-then-place-block+then-met-number+then-apart-number+else-has_room w' ↦
-                kept-not test ps b.free i inside w'.if-place-block.true (sym says ∙ and_right _ _ (and_right _ _ (sym (w'.has_room.ensures ∙ rooms) ∙ w'.if-has_room.false)))
+                kept-not test ps b.free i inside (omega (arith, free, w'.if-place-block.true)) (sym says ∙ and_right _ _ (and_right _ _ (sym (w'.has_room.ensures ∙ rooms) ∙ w'.if-has_room.false)))
             | else-place-block-via-then-place-block+then-met-number+else-apart-number w' ↦
-                kept-not test ps b.free i inside w'.if-place-block.true (sym says ∙ and_right _ _ (and_left _ _ (sym apart ∙ w'.if-apart-number.false)))
+                kept-not test ps b.free i inside (omega (arith, free, w'.if-place-block.true)) (sym says ∙ and_right _ _ (and_left _ _ (sym apart ∙ w'.if-apart-number.false)))
             | else-place-block-via-then-place-block+else-met-number w' ↦
-                kept-not test ps b.free i inside w'.if-place-block.true (sym says ∙ and_left _ _ (sym met ∙ w'.if-met-number.false))
-            | else-place-block-via-else-place-block w' ↦ kept-past test ps b.free i inside w'.if-place-block.false
+                kept-not test ps b.free i inside (omega (arith, free, w'.if-place-block.true)) (sym says ∙ and_left _ _ (sym met ∙ w'.if-met-number.false))
+            | else-place-block-via-else-place-block w' ↦ kept-past test ps b.free i inside (omega (arith, free, w'.if-place-block.false))
           ] in
           record {
             bound = omega (arith, w.live-is, next, before.bound);

@@ -3,14 +3,14 @@ use Rattle.std.proofs.Common.{◌≡◌, ◌^◌, ◌<◌, take}
 use Rattle.std.specs.List.{filter}
 use Rattle.clearing.specs.Choices.{taken}
 use Rattle.clearing.specs.Lawful.{view}
-use Rattle.bounds.specs.Blocks.{span, InDocket}
+use Rattle.bounds.specs.Blocks.{InDocket}
 use Rattle.bounds.specs.Rules.{fixed, possible, free_ones, joins}
 use Rattle.bounds.proofs.live.live_choice.Given as goal
 
 abbrev pub invariant-loop-place : goal.invariant-loop-place
 invariant-loop-place l =
     let v = view l.docket in
-    let b = span l.block in
+    let b = l.fn.block in
     record {
       bound : l.live < 2 ^ l.place;
       value : InDocket v b → taken v.packages l.live ≡ filter (joins v (fixed v b) (possible v b)) (take l.place (free_ones v b));

@@ -11,7 +11,6 @@ use Rattle.clearing.proofs.Filling.{ranged as ranges_of}
 use Rattle.clearing.proofs.Fits.{OpenRanges, each-most}
 use Rattle.clearing.proofs.Rows.{row-each, where_most}
 use Rattle.bounds.specs.declared.multipliers.Between.{Between}
-use Rattle.bounds.specs.Blocks.{span}
 use Rattle.bounds.specs.Multipliers.{Multipliers, unit_worth, price_at, middle, oversupplied, narrowed, narrowing, widest}
 use Rattle.bounds.specs.Rules.{fixed}
 use Rattle.bounds.proofs.multipliers.multipliers.Goals as goal
@@ -90,7 +89,7 @@ loop-turn-init c = c.widest-between.ensures ∙ sym (narrowing-none _ _ _ _)
 pub loop-turn-preserved : goal.loop-turn-preserved
 loop-turn-preserved c =
     let d = c.args.docket.now in
-    let fixed_ones = fixed (view d) (span c.args.block) in
+    let fixed_ones = fixed (view d) c.args.block in
     let free = taken (vec_items d.packages.list) c.args.live in
     c.narrowed-between.ensures
     ∙ ap (narrowed (vec_items d.bands.list) fixed_ones free) c.loop-turn.invariant
@@ -99,7 +98,7 @@ loop-turn-preserved c =
 pub returns-clause-range : goal.returns-clause-range
 returns-clause-range c =
     let d = c.args.docket.now in
-    let fixed_ones = fixed (view d) (span c.args.block) in
+    let fixed_ones = fixed (view d) c.args.block in
     let free = taken (vec_items d.packages.list) c.args.live in
     let within = narrowing_few (vec_items d.bands.list) (ranges_of (vec_items d.bands.list) d.bands_fit) fixed_ones free c.loop-turn._turn in
     subst Priced (sym c.middle.ensures) (middle_few c.loop-turn.between (subst Within (sym c.loop-turn.invariant) within))

@@ -2,7 +2,6 @@
 use Rattle.std.proofs.Common.{◌≡◌, vec_items}
 use Rattle.clearing.specs.Choices.{taken}
 use Rattle.clearing.specs.Lawful.{view}
-use Rattle.bounds.specs.Blocks.{span}
 use Rattle.bounds.specs.Multipliers.{narrowing, widest}
 use Rattle.bounds.specs.Rules.{fixed}
 use Rattle.bounds.proofs.multipliers.multipliers.Given as goal
@@ -10,6 +9,6 @@ use Rattle.bounds.proofs.multipliers.multipliers.Given as goal
 abbrev pub invariant-loop-turn : goal.invariant-loop-turn
 invariant-loop-turn l =
     let bands = vec_items l.docket.bands.list in
-    let fixed_ones = fixed (view l.docket) (span l.block) in
+    let fixed_ones = fixed (view l.docket) l.block in
     let free = taken (vec_items l.docket.packages.list) l.live in
     l.between ≡ narrowing l._turn bands fixed_ones free (widest bands fixed_ones free)

@@ -6,6 +6,6 @@ use Rattle.bounds.proofs.one_by_one.OneByOneBoundingRule.consult.Given as goal
 
 abbrev pub invariant-loop-digit : goal.invariant-loop-digit
 invariant-loop-digit l =
-    (l.cap ≡ unlimited (view l.docket) l.block.first +ℤ lone_gains (view l.docket) l.block.first l.digit)
+    (l.cap ≡ unlimited (view l.docket) l.block-inside.first +ℤ lone_gains (view l.docket) l.block-inside.first l.digit)
     × (negsuc 799999999999 ≤ℤ l.cap)
     × (l.cap ≤ℤ pos (64000800000000000 + 64001600000000000 * l.digit))
