@@ -1,7 +1,6 @@
 -- What a whole run of requests comes to.
 use Rattle.std.specs.Prelude.{◌≡◌, List, map, vec_items}
 use Rattle.offers.specs.Memory.{entries_in}
-use Rattle.search.specs.Search.{standing}
 use Rattle.rounds.specs.declared.replays.Stage.{Stage}
 use Rattle.rounds.specs.declared.replays.Stage.TheVariants as stage
 use Rattle.rounds.specs.declared.replays.Moment.{Moment}
@@ -12,8 +11,8 @@ use Rattle.rounds.specs.Requests.{of_round, answer_of}
 
 abbrev pub of_stage : Stage → PlainStage
 of_stage stage.Open = AtOpen
-of_stage (stage.Closed at) = AtClosed (standing at)
-of_stage (stage.Awarded at) = AtAwarded (standing at)
+of_stage (stage.Closed at) = AtClosed at
+of_stage (stage.Awarded at) = AtAwarded at
 
 abbrev pub moment_of : Moment → PlainMoment
 moment_of m = record { answer = answer_of m.reply; entries = entries_in m.offers; stage = of_stage m.stage }

@@ -5,8 +5,7 @@ use Rattle.offers.specs.declared.refusals.Refusal.{Refusal}
 use Rattle.offers.specs.Memory.{entries_in}
 use Rattle.clearing.specs.Lawful.{View, view, nothing_open}
 use Rattle.bounds.specs.Blocks.{Answers}
-use Rattle.search.specs.declared.positions.Position.{Position}
-use Rattle.search.specs.Search.{standing, work_left}
+use Rattle.search.specs.Search.{Standing, work_left}
 use Rattle.rounds.specs.declared.open_round.OpenRound.{OpenRound}
 use Rattle.rounds.specs.declared.closed_round.ClosedRound.{ClosedRound}
 use Rattle.rounds.specs.declared.awarded_round.AwardedRound.{AwardedRound}
@@ -19,10 +18,10 @@ abbrev pub of_open : OpenRound → Model
 of_open r = model (entries_in r.offers) IsOpen
 
 abbrev pub of_closed : ClosedRound → Model
-of_closed r = model (entries_in r.offers) (IsClosed (view r.docket) (standing r.at))
+of_closed r = model (entries_in r.offers) (IsClosed (view r.docket) r.at)
 
 abbrev pub of_awarded : AwardedRound → Model
-of_awarded r = model (entries_in r.offers) (IsAwarded (view r.docket) (standing r.at))
+of_awarded r = model (entries_in r.offers) (IsAwarded (view r.docket) r.at)
 
 abbrev pub of_searched : Searched → Model
 of_searched (searched.Closed r) = of_closed r
@@ -70,7 +69,7 @@ pub record Serves (before : Model) (call : Call) (s : Stepped) : Type 0 where
   pub run : Continues before call s
 
 -- a search that has not finished leaves less to do
-abbrev pub Falls : Searched → Position → Type 0
+abbrev pub Falls : Searched → Standing → Type 0
 Falls (searched.Closed r) from = work_left r.at < work_left from
 Falls (searched.Awarded r) from = Unit {0}
 

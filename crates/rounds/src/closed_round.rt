@@ -1,7 +1,7 @@
 //! A closed round: it has a docket, which is searched.
 ghost use Rattle.std.specs.Prelude.{◌≡◌, ◌≤◌};
 ghost use Rattle.clearing.specs.Lawful.{view};
-ghost use Rattle.search.specs.Search.{Placed, standing};
+ghost use Rattle.search.specs.Search.{Placed};
 
 use crate::awarded_round::AwardedRound;
 use crate::open_round::OpenRound;
@@ -17,7 +17,7 @@ pub struct ClosedRound {
     pub(crate) offers: Offers,
     pub(crate) docket: Docket,
     pub(crate) at: Position,
-    ghost placed: { Placed (view docket) (standing at) },
+    ghost placed: { Placed (view docket) at },
 }
 
 /// What a search leaves.

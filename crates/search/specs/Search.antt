@@ -5,11 +5,6 @@ use Rattle.std.specs.Int.Signed.{lt_z}
 use Rattle.clearing.specs.Judging.{worth_of}
 use Rattle.clearing.specs.Lawful.{View, BestBelow, surplus, filled_sales, choices}
 use Rattle.bounds.specs.Blocks.{Span, Answers, InDocket}
-use Rattle.search.specs.declared.positions.Position.{Position}
-
--- a number that falls with each step: more choices are settled, or the next block is half as long
-abbrev pub work_left : Position → ℕ
-work_left at = (2 ^ 41 - at.settled) * 64 + at.free
 
 -- Where a search stands, as plain numbers.
 pub record Standing : Type 0 where
@@ -21,8 +16,9 @@ pub record Standing : Type 0 where
   pub leader : ℕ
   pub surplus : ℤ
 
-abbrev pub standing : Position → Standing
-standing at = record { settled = at.settled; free = at.free; leader = at.leader; surplus = at.surplus }
+-- a number that falls with each step: more choices are settled, or the next block is half as long
+abbrev pub work_left : Standing → ℕ
+work_left at = (2 ^ 41 - at.settled) * 64 + at.free
 
 -- the block that is next
 abbrev pub next_block : Standing → Span

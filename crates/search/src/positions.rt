@@ -3,9 +3,11 @@
 ghost use Rattle.std.specs.Prelude.{◌≡◌, ◌+◌, ◌^◌, ◌<◌, ◌≤◌, vec_len};
 ghost use Rattle.clearing.specs.Lawful.{view, choices};
 ghost use Rattle.std.specs.Int.Count.{count_trailing_zeros};
+ghost use Rattle.search.specs.Search.{Standing};
 
 use bounds::{Block, BoundingRule};
 use clearing::{Docket, worth};
+use std::marker::Model;
 
 /// Where a search stands: the choices below `settled` are settled, and the leader is the best of them.
 #[derive(Clone, Copy)]
@@ -16,18 +18,26 @@ pub struct Position {
     pub leader: u64,
     /// pesos, of the leader
     pub surplus: i64,
-    ghost within: { settled ≤ 2 ^ 41 },
-    ghost few: { free ≤ 40 },
+}
+
+impl Model for Position {
+    ghost Value = { Standing };
+
+    ghost view = { λ p. record { settled = p.settled; free = p.free; leader = p.leader; surplus = p.surplus } };
+
+    ghost invariant = { λ p. record { within : p.settled ≤ 2 ^ 41; few : p.free ≤ 40 } };
+
+    ghost inverse = { λ p. record { settled = p.settled; free = p.free; leader = p.leader; surplus = p.surplus } };
 }
 
 impl Position {
     ghost use Rattle.clearing.specs.Judging.{worth_of};
     ghost use Rattle.clearing.specs.Lawful.{view};
-    ghost use Rattle.search.specs.Search.{work_left, standing, start_position, after_settling, after_halving, after_trial};
+    ghost use Rattle.search.specs.Search.{work_left, start_position, after_settling, after_halving, after_trial};
 
     /// A search begins with choice 0, which takes nothing, settled and leading.
     pub fn start() -> Position
-        ensures { standing result ≡ start_position }
+        ensures { result ≡ start_position }
     {
         Position {
             settled: 1,
@@ -41,7 +51,7 @@ impl Position {
     fn settle(mut self, more: u64) -> Position
         requires { self.settled + more ≤ 2 ^ 41 }
         ensures count { result.settled ≡ self.settled + more }
-        ensures value { 0 < self.settled + more → self.settled + more ≤ 2 ^ 40 → standing result ≡ after_settling (standing self) more }
+        ensures value { 0 < self.settled + more → self.settled + more ≤ 2 ^ 40 → result ≡ after_settling self more }
     {
         self.settled += more;
         self.free = zero_digits(self.settled);
@@ -53,7 +63,7 @@ impl Position {
     pub(crate) fn skip(self) -> Position
         requires { self.settled < 2 ^ 40 }
         ensures falls { work_left result < work_left self }
-        ensures value { self.settled + 2 ^ self.free ≤ 2 ^ 40 → standing result ≡ after_settling (standing self) (2 ^ self.free) }
+        ensures value { self.settled + 2 ^ self.free ≤ 2 ^ 40 → result ≡ after_settling self (2 ^ self.free) }
     {
         self.settle(1u64 << self.free)
     }
@@ -62,7 +72,7 @@ impl Position {
     pub(crate) fn halve(mut self) -> Position
         requires { 0 < self.free }
         ensures falls { work_left result < work_left self }
-        ensures value { standing result ≡ after_halving (standing self) }
+        ensures value { result ≡ after_halving self }
     {
         self.free -= 1;
         self
@@ -70,7 +80,7 @@ impl Position {
 
     // The next choice leads if it is lawful and worth more than the leader.
     fn lead(mut self, docket: &Docket) -> Position
-        ensures { standing result ≡ after_trial (standing self) (worth_of (view docket.now) self.settled) }
+        ensures { result ≡ after_trial self (worth_of (view docket.now) self.settled) }
     {
         if let Some(surplus) = worth(docket, self.settled)
             && surplus > self.surplus
@@ -85,7 +95,7 @@ impl Position {
     pub(crate) fn try_choice(self, docket: &Docket) -> Position
         requires { self.settled < 2 ^ 40 }
         ensures falls { work_left result < work_left self }
-        ensures value { standing result ≡ after_settling (after_trial (standing self) (worth_of (view docket.now) self.settled)) 1 }
+        ensures value { result ≡ after_settling (after_trial self (worth_of (view docket.now) self.settled)) 1 }
     {
         self.lead(docket).settle(1)
     }
@@ -95,16 +105,16 @@ impl Position {
     ghost use Rattle.std.specs.Prelude.{length, vec_len};
     ghost use Rattle.clearing.specs.Closing.{ByClosing};
     ghost use Rattle.clearing.specs.Lawful.{view, choices};
-    ghost use Rattle.search.specs.Search.{Placed, Leads, work_left, standing, after_step, after_steps};
+    ghost use Rattle.search.specs.Search.{Placed, Leads, work_left, after_step, after_steps};
 
     /// Makes the steps that it is given, or fewer if every choice is settled before. As many steps as there are packages settle
     /// at least one choice, and a leader that was the best of the settled choices is so again.
     pub fn run<B: BoundingRule>(self, docket: &Docket, rule: &mut B, steps: u32) -> Position
-        ensures value { Placed (view docket.now) (standing self) → standing result ≡ after_steps (B.BoundingRule.answers rule.old) (view docket.now) steps (standing self) }
+        ensures value { Placed (view docket.now) self → result ≡ after_steps (B.BoundingRule.answers rule.old) (view docket.now) steps self }
         ensures falls { 0 < steps → self.settled < 2 ^ vec_len docket.now.packages.list → work_left result < work_left self }
-        ensures settles { Placed (view docket.now) (standing self) → self.settled < choices (view docket.now) → length (view docket.now).packages ≤ steps → self.settled < result.settled }
-        ensures placed { Placed (view docket.now) (standing self) → Placed (view docket.now) (standing result) }
-        ensures leads { Placed (view docket.now) (standing self) → ByClosing (view docket.now) → Leads (view docket.now) (standing self) → Leads (view docket.now) (standing result) }
+        ensures settles { Placed (view docket.now) self → self.settled < choices (view docket.now) → length (view docket.now).packages ≤ steps → self.settled < result.settled }
+        ensures placed { Placed (view docket.now) self → Placed (view docket.now) result }
+        ensures leads { Placed (view docket.now) self → ByClosing (view docket.now) → Leads (view docket.now) self → Leads (view docket.now) result }
         ensures same_rule { B.BoundingRule.answers rule.new ≡ B.BoundingRule.answers rule.old }
     {
         let all = choices(docket);
@@ -122,7 +132,7 @@ impl Position {
     fn step<B: BoundingRule>(self, docket: &Docket, rule: &mut B) -> Position
         requires { self.settled < 2 ^ 40 }
         ensures falls { work_left result < work_left self }
-        ensures value { Placed (view docket.now) (standing self) → self.settled < choices (view docket.now) → standing result ≡ after_step (B.BoundingRule.answers rule.old) (view docket.now) (standing self) }
+        ensures value { Placed (view docket.now) self → self.settled < choices (view docket.now) → result ≡ after_step (B.BoundingRule.answers rule.old) (view docket.now) self }
         ensures same_rule { B.BoundingRule.answers rule.new ≡ B.BoundingRule.answers rule.old }
     {
         let block = Block {

@@ -4,7 +4,7 @@ use Rattle.std.proofs.lemmas.Bool.{eq-eqb}
 use Rattle.clearing.specs.Lawful.{view, choices}
 use Rattle.clearing.proofs.ClosedRanges.{ranged-closing}
 use Rattle.clearing.proofs.Judged.{worth_tells}
-use Rattle.search.specs.Search.{standing, Placed, Leads, finished, after_step, after_steps}
+use Rattle.search.specs.Search.{Standing, Placed, Leads, finished, after_step, after_steps}
 use Rattle.search.proofs.Placings.{Moved, not-finished, step-placed, finished-stays, goes_on, moves_on}
 use Rattle.search.proofs.Leadings.{step-leads}
 use Rattle.search.proofs.positions.Position.run.Goals as goal
@@ -13,15 +13,15 @@ pub loop-preserved : goal.loop-preserved
 loop-preserved g c =
     let v = view c.args.docket.now in
     let rule = g.B.BoundingRule.answers c.args.rule.now in
-    let at = standing c.loop.at in
+    let at = c.loop.at in
     let so_far = c.loop.invariant in
-    let below : at.settled < choices v = omega (arith, c.choices-all.ensures.count, c.if-at-all.false) in
-    let next = λ (placed : Placed v (standing c.args.self)). sym (c.step-at.ensures.value (so_far.placed placed) below ∙ ap (λ r. after_step r v at) so_far.same_rule) in
+    let below : at.settled < choices v = omega (arith, c.choices-all.ensures.count, c.if-at-all.false, ap (λ (a : Standing). a.settled) c.at.view_is) in
+    let next = λ (placed : Placed v c.args.self). sym (c.step-at.ensures.value (so_far.placed placed) below ∙ ap (λ r. after_step r v at) so_far.same_rule) in
     record {
       leads_on = λ placed rest count.
           so_far.leads_on placed (suc rest) (omega arith) ∙ goes_on rule v rest at (not-finished v at below) ∙ ap (after_steps rule v rest) (next placed);
       placed = λ placed. subst (Placed v) (next placed) (step-placed rule v at (so_far.placed placed) below);
-      moved = λ placed. subst (λ a. Moved (standing c.args.self) a (c.loop.counter + 1)) (next placed) (moves_on rule v (standing c.args.self) at c.loop.counter (so_far.moved placed));
+      moved = λ placed. subst (λ a. Moved c.args.self a (c.loop.counter + 1)) (next placed) (moves_on rule v c.args.self at c.loop.counter (so_far.moved placed));
       leads = λ placed closed first.
           let ranged = ranged-closing v closed in
           subst (Leads v) (next placed)
@@ -38,6 +38,6 @@ pub returns-then-at-all-clause-value : goal.returns-then-at-all-clause-value
 returns-then-at-all-clause-value g c = λ placed.
     let v = view c.args.docket.now in
     let most = (c.loop.invariant.placed placed).most in
-    let done : finished v (standing c.loop.at) ≡ true = eq-eqb _ _ (omega (arith, c.if-at-all.true, c.choices-all.ensures.count)) in
+    let done : finished v c.loop.at ≡ true = eq-eqb _ _ (omega (arith, c.if-at-all.true, c.choices-all.ensures.count, ap (λ (a : Standing). a.settled) c.at.view_is)) in
     let rest = c.args.steps - c.loop.counter in
-    sym (c.loop.invariant.leads_on placed rest (omega arith) ∙ finished-stays (g.B.BoundingRule.answers c.args.rule.now) v rest (standing c.loop.at) done)
+    sym (c.loop.invariant.leads_on placed rest (omega arith) ∙ finished-stays (g.B.BoundingRule.answers c.args.rule.now) v rest c.loop.at done)

@@ -4,4 +4,4 @@ use Rattle.std.proofs.lemmas.Nat.{one_shl}
 use Rattle.search.proofs.positions.Position.skip.Goals as goal
 
 pub settle-requires : goal.settle-requires
-settle-requires c = omega (arith, one_shl c.args.self.free 64 (omega arith), pow_mono c.args.self.few)
+settle-requires c = let few = c.self.invariant.few in omega (arith, one_shl c.self.inside.free 64 (omega (arith, few)), pow_mono few)
