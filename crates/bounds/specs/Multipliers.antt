@@ -1,9 +1,11 @@
 -- The multipliers of a block.
+use Rattle.bounds.specs.Blocks.{Span, fixed}
+use Rattle.clearing.specs.Lawful.{View}
 use Rattle.std.specs.Prelude.{ℕ, zero, suc, ◌+◌, ◌-◌, ◌*◌, ◌/◌, max, Bool, ◌&&◌, List, [], ◌∷◌, ℤ, pos, ◌-ℤ◌, int_lt, ◌==◌, nat_lt, slice_index, if◌then◌else◌, false, slice_index_or}
 use Rattle.std.specs.List.{filter}
 use Rattle.clearing.specs.declared.dockets.PricedPackage.{PricedPackage}
 use Rattle.clearing.specs.declared.dockets.OpenBand.{OpenBand}
-use Rattle.clearing.specs.Choices.{total, markets, supplied, supply}
+use Rattle.clearing.specs.Choices.{total, markets, supplied, supply, taken}
 use Rattle.clearing.specs.Tallies.{row}
 use Rattle.bounds.specs.declared.multipliers.Between.{Between}
 
@@ -51,30 +53,44 @@ over_asked bands l supplies = row (λ m. nat_lt (asked_above bands l m) (slice_i
 abbrev pub middle : Between → Multipliers
 middle s = row (λ m. (unit_worth s.low m + unit_worth s.high m) / 2) 1 5
 
--- do the fixed packages, with those of the free that are worth more than their price, supply more to a market than is asked for above
+-- do the fixed packages, with those of the live ones that are worth more than their price, supply more to a market than is asked for above
 -- its multiplier?
 abbrev pub oversupplied : List OpenBand → List PricedPackage → List PricedPackage → Multipliers → ℕ → Bool
-oversupplied bands fixed free l m = nat_lt (asked_above bands l m) (supply m fixed + supply m (gainful l free))
+oversupplied bands fixed live l m = nat_lt (asked_above bands l m) (supply m fixed + supply m (gainful l live))
 
 -- the half where they are looked for next: the lower one of a market that is oversupplied, else the upper
 abbrev pub narrowed : List OpenBand → List PricedPackage → List PricedPackage → Between → Between
-narrowed bands fixed free s = record {
-  low = row (λ m. if oversupplied bands fixed free (middle s) m then unit_worth s.low m else unit_worth (middle s) m) 1 5;
-  high = row (λ m. if oversupplied bands fixed free (middle s) m then unit_worth (middle s) m else unit_worth s.high m) 1 5;
+narrowed bands fixed live s = record {
+  low = row (λ m. if oversupplied bands fixed live (middle s) m then unit_worth s.low m else unit_worth (middle s) m) 1 5;
+  high = row (λ m. if oversupplied bands fixed live (middle s) m then unit_worth (middle s) m else unit_worth s.high m) 1 5;
 }
 
 -- so many times
 unfoldable pub narrowing : ℕ → List OpenBand → List PricedPackage → List PricedPackage → Between → Between
-narrowing zero bands fixed free s = s
-narrowing (suc times) bands fixed free s = narrowed bands fixed free (narrowing times bands fixed free s)
+narrowing zero bands fixed live s = s
+narrowing (suc times) bands fixed live s = narrowed bands fixed live (narrowing times bands fixed live s)
 
 -- what the first band pays that is not filled by all, and by the fixed alone
 abbrev pub widest : List OpenBand → List PricedPackage → List PricedPackage → Between
-widest bands fixed free = record {
-  low = row (λ m. price_at bands m (supply m fixed + supply m free)) 1 5;
+widest bands fixed live = record {
+  low = row (λ m. price_at bands m (supply m fixed + supply m live)) 1 5;
   high = row (λ m. price_at bands m (supply m fixed)) 1 5;
 }
 
--- the multipliers of a block, of its fixed packages and of those that are free
+-- the multipliers of a block, of its fixed packages and of those of its free ones that count
 abbrev pub multipliers : List OpenBand → List PricedPackage → List PricedPackage → Multipliers
-multipliers bands fixed free = middle (narrowing 6 bands fixed free (widest bands fixed free))
+multipliers bands fixed live = middle (narrowing 6 bands fixed live (widest bands fixed live))
+
+-- the same of a block, where a choice takes those of its free packages that count
+abbrev pub widest_in : View → Span → ℕ → Between
+widest_in v b live = widest v.bands (fixed v b) (taken v.packages live)
+
+abbrev pub narrowed_in : View → Span → ℕ → Between → Between
+narrowed_in v b live = narrowed v.bands (fixed v b) (taken v.packages live)
+
+abbrev pub multipliers_in : View → Span → ℕ → Multipliers
+multipliers_in v b live = multipliers v.bands (fixed v b) (taken v.packages live)
+
+-- what the fixed packages of a block supply, market m at place m - 1
+abbrev pub fixed_supply : View → Span → List ℕ
+fixed_supply v b = row (λ m. supply m (fixed v b)) 1 5

@@ -1,5 +1,5 @@
 -- What each bounding rule answers.
-use Rattle.std.specs.Prelude.{ℕ, zero, suc, ◌+◌, ◌-◌, ◌*◌, ◌^◌, Bool, ◌&&◌, List, [], ◌∷◌, take, fold, ℤ, pos, ◌+ℤ◌, ◌-ℤ◌, Some, None, Option, if◌then◌else◌}
+use Rattle.std.specs.Prelude.{ℕ, zero, suc, ◌+◌, ◌-◌, ◌*◌, ◌^◌, Bool, ◌&&◌, List, [], ◌∷◌, take, fold, ℤ, pos, ◌+ℤ◌, ◌-ℤ◌, Some, None, Option, if◌then◌else◌, ◌≡◌}
 use Rattle.std.specs.Int.{int_max, int_min}
 use Rattle.std.specs.List.{filter}
 use Rattle.clearing.specs.declared.dockets.PricedPackage.{PricedPackage}
@@ -9,26 +9,10 @@ use Rattle.clearing.specs.Judging.{pairs_kept, exclusions_kept, zones_kept, date
 use Rattle.clearing.specs.Lawful.{View, income, surplus, filled_sales}
 use Rattle.clearing.specs.Sales.{filled}
 use Rattle.clearing.specs.Tallies.{row}
-use Rattle.bounds.specs.Blocks.{Span, Answers}
+use Rattle.bounds.specs.Blocks.{Span, Answers, last_of, fixed, possible, free_ones, InDocket}
 use Rattle.bounds.specs.Multipliers.{Multipliers, unit_worth, gain, multipliers}
 use Rattle.bounds.specs.declared.names.Named.{Named}
 use Rattle.bounds.specs.declared.names.Named.TheVariants.{Ceiling, AllIn, OneByOne, Limits, Shares, Tangent}
-
--- the choice of a block that takes every free package
-abbrev pub last_of : Span → ℕ
-last_of b = b.first + (2 ^ b.free - 1)
-
--- the packages that every choice of a block takes
-abbrev pub fixed : View → Span → List PricedPackage
-fixed v b = taken v.packages b.first
-
--- those that some choice of it takes
-abbrev pub possible : View → Span → List PricedPackage
-possible v b = taken v.packages (last_of b)
-
--- those that stand for the free digits
-abbrev pub free_ones : View → Span → List PricedPackage
-free_ones v b = take b.free v.packages
 
 -- of prices only what is below 0, together
 abbrev pub below_zero : List PricedPackage → ℤ
@@ -38,6 +22,10 @@ below_zero (p ∷ ps) = int_min p.price (pos 0) +ℤ below_zero ps
 -- no surplus of a docket comes near this many pesos
 abbrev pub ceiling : ℤ
 ceiling = pos 100000000000000000
+
+-- what each choice of a block costs at least: the fixed packages their prices, the free ones what is below 0 of theirs
+abbrev pub costs_at_least : View → Span → ℤ
+costs_at_least v b = cost (fixed v b) +ℤ below_zero (free_ones v b)
 
 -- ceiling: always that
 abbrev pub always : Answers
@@ -85,6 +73,10 @@ sold_above l bands less more =
 abbrev pub gains_above : Multipliers → List PricedPackage → ℤ
 gains_above l [] = pos 0
 gains_above l (p ∷ ps) = int_max (gain l p) (pos 0) +ℤ gains_above l ps
+
+-- a choice takes just the live packages of a block
+abbrev pub TakesLive : View → Span → ℕ → Type 0
+TakesLive v b choice = InDocket v b → taken v.packages choice ≡ live_ones v b
 
 -- the cap by multipliers, with some packages free: the surplus of the fixed, lawful or not, what all would sell beyond that above its
 -- worth, and the gains of the free

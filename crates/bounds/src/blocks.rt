@@ -23,7 +23,7 @@ impl Model for Block {
 }
 
 impl Block {
-    ghost use Rattle.bounds.specs.Rules.{last_of};
+    ghost use Rattle.bounds.specs.Blocks.{last_of};
 
     /// The choice of the block that takes all free packages.
     pub fn last(self) -> u64

@@ -4,7 +4,8 @@ ghost use Rattle.std.specs.Prelude.{◌≡◌, ◌≤◌, pos, ◌≤ℤ◌};
 ghost use Rattle.clearing.specs.Choices.{taken};
 ghost use Rattle.clearing.specs.Lawful.{view};
 ghost use Rattle.clearing.specs.Tallies.{tally_of};
-ghost use Rattle.bounds.specs.Rules.{fixed, sold_above, gains_above, tangent_by, tangent};
+ghost use Rattle.bounds.specs.Rules.{sold_above, gains_above, tangent_by, tangent};
+ghost use Rattle.bounds.specs.Blocks.{fixed};
 ghost use Rattle.clearing.proofs.ClosedRanges.{ranged-closing};
 ghost use Rattle.bounds.specs.Laws.Tangent.{tangent-sound};
 

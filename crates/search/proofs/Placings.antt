@@ -1,7 +1,7 @@
 -- A search stays placed in its docket, a step skips, halves or tries its next block, and each that settles nothing leaves a smaller one.
-use Rattle.std.proofs.Common.{◌≡◌, ℕ, zero, suc, ◌+◌, ◌-◌, ◌^◌, ◌<◌, ◌≤◌, true, false, ltb, length, ℤ, Some, None, Option, refl, arith, pow_pos}
+use Rattle.std.proofs.Common.{◌≡◌, ℕ, zero, suc, ◌+◌, ◌-◌, ◌%◌, ◌^◌, ◌<◌, ◌≤◌, true, false, ltb, length, ℤ, Some, None, Option, refl, ⊎_elim, mod-eq_of_lt, arith, pow_pos}
 use lib.Signed.{lt_z}
-use Rattle.std.proofs.lemmas.Bool.{cond_both, cond-true, cond-false, ltb-true, ltb-false, ne_eqb}
+use Rattle.std.proofs.lemmas.Bool.{cases_lt, cond_both, cond-true, cond-false, ltb-true, ltb-false, ne_eqb}
 use Rattle.clearing.specs.Judging.{worth_of}
 use Rattle.clearing.specs.Lawful.{View, choices}
 use Rattle.bounds.specs.Blocks.{Answers}
@@ -18,6 +18,18 @@ lead_settled at (Some worth) = cond_both (lt_z at.surplus worth) _ _ (λ (a : St
 pub record Moved (from at : Standing) (count : ℕ) : Type 0 where
   pub lasts : from.settled ≤ at.settled
   pub smaller : at.settled ≤ from.settled → at.free + count ≤ from.free
+
+-- as many moves as there are packages settle a choice: no block of a docket has so many free digits behind a settled choice
+pub settles : (v : View) (from at : Standing) (count : ℕ) → Placed v from → from.settled < choices v → length v.packages ≤ count → Moved from at count
+    → from.settled < at.settled
+settles v from at count placed below few moved =
+    let b = placed.block below in
+    ⊎_elim (λ (on : from.settled < at.settled). on)
+    (λ (still : at.settled ≤ from.settled).
+    let all : from.free ≡ length v.packages = omega (arith, moved.smaller still, b.few) in
+    let none : from.settled % 2 ^ length v.packages ≡ 0 = rw all at b.zeros in
+    absurd (omega (arith, placed.some, mod-eq_of_lt below)))
+    (cases_lt from.settled at.settled)
 
 module _ (v : View) where
   -- a search starts placed

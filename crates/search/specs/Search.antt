@@ -1,5 +1,6 @@
 -- The search: what holds wherever it stands, and how a step moves it.
-use Rattle.std.specs.Prelude.{◌≡◌, ℕ, zero, suc, ◌+◌, ◌-◌, ◌*◌, ◌^◌, ◌<◌, ◌≤◌, Bool, true, ℤ, pos, Some, None, Option, ◌==◌, int_le, nat_lt, if◌then◌else◌}
+use Rattle.clearing.specs.Closing.{ByClosing}
+use Rattle.std.specs.Prelude.{◌≡◌, ℕ, zero, suc, ◌+◌, ◌-◌, ◌*◌, ◌^◌, ◌<◌, ◌≤◌, Bool, true, ℤ, pos, Some, None, Option, ◌==◌, int_le, nat_lt, if◌then◌else◌, length}
 use Rattle.std.specs.Int.Count.{count_trailing_zeros}
 use Rattle.std.specs.Int.Signed.{lt_z}
 use Rattle.clearing.specs.Judging.{worth_of}
@@ -86,3 +87,22 @@ after_steps rule v zero at = at
 after_steps rule v (suc count) at =
     let rest : Standing = after_steps rule v count (after_step rule v at) in
     (if finished v at then at else rest)
+
+-- one step of a search that stands in a docket and has not settled all
+abbrev pub StepsTo : Answers → View → Standing → Standing → Type 0
+StepsTo rule v from to = Placed v from → from.settled < choices v → to ≡ after_step rule v from
+
+-- What a run of so many steps owes, from where it began to where it ends.
+pub record Runs (rule : Answers) (v : View) (count : ℕ) (from to : Standing) : Type 0 where
+  -- it makes exactly the steps of the rules
+  pub steps : to ≡ after_steps rule v count from
+  -- it stands in the docket still
+  pub placed : Placed v to
+  -- as many steps as there are packages settle at least one choice
+  pub settles : from.settled < choices v → length v.packages ≤ count → from.settled < to.settled
+  -- and a leader that was the best of the settled choices is so again
+  pub leads : ByClosing v → Leads v from → Leads v to
+
+-- of a search that stands in the docket
+abbrev pub RunsFrom : Answers → View → ℕ → Standing → Standing → Type 0
+RunsFrom rule v count from to = Placed v from → Runs rule v count from to

@@ -102,19 +102,15 @@ impl Position {
 }
 
 impl Position {
-    ghost use Rattle.std.specs.Prelude.{length, vec_len};
-    ghost use Rattle.clearing.specs.Closing.{ByClosing};
-    ghost use Rattle.clearing.specs.Lawful.{view, choices};
-    ghost use Rattle.search.specs.Search.{Placed, Leads, work_left, after_step, after_steps};
+    ghost use Rattle.std.specs.Prelude.{vec_len};
+    ghost use Rattle.clearing.specs.Lawful.{view};
+    ghost use Rattle.search.specs.Search.{StepsTo, RunsFrom, work_left};
 
     /// Makes the steps that it is given, or fewer if every choice is settled before. As many steps as there are packages settle
     /// at least one choice, and a leader that was the best of the settled choices is so again.
     pub fn run<B: BoundingRule>(self, docket: &Docket, rule: &mut B, steps: u32) -> Position
-        ensures value { Placed (view docket.now) self → result ≡ after_steps (B.BoundingRule.answers rule.old) (view docket.now) steps self }
+        ensures runs { RunsFrom (B.BoundingRule.answers rule.old) (view docket.now) steps self result }
         ensures falls { 0 < steps → self.settled < 2 ^ vec_len docket.now.packages.list → work_left result < work_left self }
-        ensures settles { Placed (view docket.now) self → self.settled < choices (view docket.now) → length (view docket.now).packages ≤ steps → self.settled < result.settled }
-        ensures placed { Placed (view docket.now) self → Placed (view docket.now) result }
-        ensures leads { Placed (view docket.now) self → ByClosing (view docket.now) → Leads (view docket.now) self → Leads (view docket.now) result }
         ensures same_rule { B.BoundingRule.answers rule.new ≡ B.BoundingRule.answers rule.old }
     {
         let all = choices(docket);
@@ -132,7 +128,7 @@ impl Position {
     fn step<B: BoundingRule>(self, docket: &Docket, rule: &mut B) -> Position
         requires { self.settled < 2 ^ 40 }
         ensures falls { work_left result < work_left self }
-        ensures value { Placed (view docket.now) self → self.settled < choices (view docket.now) → result ≡ after_step (B.BoundingRule.answers rule.old) (view docket.now) self }
+        ensures value { StepsTo (B.BoundingRule.answers rule.old) (view docket.now) self result }
         ensures same_rule { B.BoundingRule.answers rule.new ≡ B.BoundingRule.answers rule.old }
     {
         let block = Block {

@@ -16,8 +16,8 @@ use Rattle.clearing.proofs.Ranged.{Ranged}
 use Rattle.clearing.proofs.RowRules.{all_both}
 use Rattle.clearing.proofs.Takings.{taken-fits, taken-few}
 use Rattle.clearing.proofs.Tallying.{cost_between}
-use Rattle.bounds.specs.Blocks.{Span, InDocket, InBlock, Claims}
-use Rattle.bounds.specs.Rules.{last_of, fixed, possible, ceiling, always, all_in, limits_kept, shares_kept, smaller, free_ones, below_zero}
+use Rattle.bounds.specs.Blocks.{Span, InDocket, InBlock, Claims, last_of, fixed, possible, free_ones}
+use Rattle.bounds.specs.Rules.{ceiling, always, all_in, limits_kept, shares_kept, smaller, below_zero}
 use Rattle.bounds.specs.Laws.Parts.{Part, first_part, last_part, lowest, fixed_digits, first_is, free_digits, choice_is}
 use Rattle.std.proofs.Math.Nat.{pow-succ'}
 use Rattle.std.specs.Int.{int_min}

@@ -7,8 +7,7 @@ use Rattle.std.proofs.lemmas.Bool.{true≢false, or_cases, or_left, or_right, eq
 use Rattle.clearing.specs.declared.dockets.PricedPackage.{PricedPackage}
 use Rattle.clearing.specs.Choices.{taken, total, has_number}
 use Rattle.clearing.specs.Lawful.{View}
-use Rattle.bounds.specs.Blocks.{Span, InDocket, InBlock}
-use Rattle.bounds.specs.Rules.{last_of, fixed, possible}
+use Rattle.bounds.specs.Blocks.{Span, InDocket, InBlock, last_of, fixed, possible}
 
 -- Packages that are part of others: no amount comes to more over them, and each is among the others.
 pub record Part (xs ys : List PricedPackage) : Type 0 where

@@ -21,9 +21,9 @@ use Rattle.clearing.proofs.FillingOrder.{at_least}
 use Rattle.clearing.proofs.Incomes.{income-next}
 use Rattle.clearing.proofs.Ranged.{Ranged, filled-most}
 use Rattle.clearing.proofs.Totals.{total-append}
-use Rattle.bounds.specs.Blocks.{Span, InDocket, Claims}
+use Rattle.bounds.specs.Blocks.{Span, InDocket, Claims, fixed, possible, free_ones}
 use Rattle.bounds.specs.Multipliers.{Multipliers, unit_worth, value_at, multipliers}
-use Rattle.bounds.specs.Rules.{fixed, possible, free_ones, joins, live_ones, sold_above, gains_above, tangent_by, tangent}
+use Rattle.bounds.specs.Rules.{joins, live_ones, sold_above, gains_above, tangent_by, tangent}
 use Rattle.bounds.specs.Laws.Splits.{taken-kept, each-next, choice-splits, taken-live}
 
 -- one amount at a market's place is worth that many of its units

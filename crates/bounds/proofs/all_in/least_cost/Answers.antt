@@ -16,8 +16,8 @@ use Rattle.clearing.specs.Ranges.{package_fits}
 use Rattle.clearing.proofs.Fits.{each_take, priced_ranges}
 use Rattle.clearing.proofs.Ranged.{ranged_docket}
 use Rattle.clearing.proofs.Takings.{walk, next-room, next-fits, next-added, taken-priced}
-use Rattle.bounds.specs.Blocks.{Span}
-use Rattle.bounds.specs.Rules.{fixed, free_ones, below_zero}
+use Rattle.bounds.specs.Blocks.{Span, fixed, free_ones}
+use Rattle.bounds.specs.Rules.{below_zero}
 use Rattle.bounds.proofs.all_in.least_cost.Goals as goal
 
 -- one package more at the end counts what is below 0 of its price

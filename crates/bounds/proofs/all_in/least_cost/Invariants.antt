@@ -2,7 +2,8 @@
 use Rattle.std.proofs.Common.{◌≡◌, ◌+ℤ◌, length, take}
 use Rattle.clearing.specs.Choices.{cost}
 use Rattle.clearing.specs.Lawful.{view}
-use Rattle.bounds.specs.Rules.{fixed, free_ones, below_zero}
+use Rattle.bounds.specs.Rules.{below_zero}
+use Rattle.bounds.specs.Blocks.{fixed, free_ones}
 use Rattle.bounds.proofs.all_in.least_cost.Given as goal
 
 abbrev pub invariant-loop-package : goal.invariant-loop-package

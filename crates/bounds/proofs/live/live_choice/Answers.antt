@@ -16,7 +16,8 @@ use Rattle.clearing.proofs.Held.{no_package}
 use Rattle.clearing.proofs.Ranged.{ranged_docket}
 use Rattle.clearing.proofs.Takings.{taken-bounded}
 use Rattle.clearing.proofs.Tallying.{Bounded}
-use Rattle.bounds.specs.Rules.{fixed, possible, free_ones, joins}
+use Rattle.bounds.specs.Rules.{joins}
+use Rattle.bounds.specs.Blocks.{fixed, possible, free_ones}
 use Rattle.bounds.specs.Live.{cleared, unopposed, tightest, room}
 use Rattle.bounds.specs.Laws.Splits.{taken_none}
 use Rattle.bounds.proofs.Digits.{taken_with, kept-yes, kept-no}

@@ -3,8 +3,8 @@ use Rattle.std.proofs.Common.{◌≡◌, ◌^◌, ◌<◌, take}
 use Rattle.std.specs.List.{filter}
 use Rattle.clearing.specs.Choices.{taken}
 use Rattle.clearing.specs.Lawful.{view}
-use Rattle.bounds.specs.Blocks.{InDocket}
-use Rattle.bounds.specs.Rules.{fixed, possible, free_ones, joins}
+use Rattle.bounds.specs.Blocks.{InDocket, fixed, possible, free_ones}
+use Rattle.bounds.specs.Rules.{joins}
 use Rattle.bounds.proofs.live.live_choice.Given as goal
 
 abbrev pub invariant-loop-place : goal.invariant-loop-place

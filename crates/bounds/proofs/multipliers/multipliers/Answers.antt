@@ -12,7 +12,7 @@ use Rattle.clearing.proofs.Fits.{OpenRanges, each-most}
 use Rattle.clearing.proofs.Rows.{row-each, where_most}
 use Rattle.bounds.specs.declared.multipliers.Between.{Between}
 use Rattle.bounds.specs.Multipliers.{Multipliers, unit_worth, price_at, middle, oversupplied, narrowed, narrowing, widest}
-use Rattle.bounds.specs.Rules.{fixed}
+use Rattle.bounds.specs.Blocks.{fixed}
 use Rattle.bounds.proofs.multipliers.multipliers.Goals as goal
 
 -- no turn leaves all

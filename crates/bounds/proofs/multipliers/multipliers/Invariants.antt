@@ -3,7 +3,7 @@ use Rattle.std.proofs.Common.{◌≡◌, vec_items}
 use Rattle.clearing.specs.Choices.{taken}
 use Rattle.clearing.specs.Lawful.{view}
 use Rattle.bounds.specs.Multipliers.{narrowing, widest}
-use Rattle.bounds.specs.Rules.{fixed}
+use Rattle.bounds.specs.Blocks.{fixed}
 use Rattle.bounds.proofs.multipliers.multipliers.Given as goal
 
 abbrev pub invariant-loop-turn : goal.invariant-loop-turn

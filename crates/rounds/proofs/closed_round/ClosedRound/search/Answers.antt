@@ -39,7 +39,7 @@ returns-clause-falls g c some most = elim c.if-at-choices.branch [
   | then-at-choices w ↦ subst (λ (s : Searched). Falls s c.args.self.at) (sym w.next-is) tt
   | else-at-choices w ↦
       let v = view c.args.self.docket in
-      let below = was_open (g.B.BoundingRule.answers c.args.rule.now) v c.args.steps c.args.self.at c.run-at.result c.args.self.placed (c.run-at.ensures.value c.args.self.placed)
+      let below = was_open (g.B.BoundingRule.answers c.args.rule.now) v c.args.steps c.args.self.at c.run-at.result c.args.self.placed (c.run-at.ensures.runs c.args.self.placed).steps
       (λ e. w.if-at-choices.false (ap (λ (a : Standing). a.settled) c.at.view_is ∙ e ∙ sym c.choices.ensures.count)) in
       subst (λ (s : Searched). Falls s c.args.self.at) (sym w.next-is) (c.run-at.ensures.falls some (subst (λ (n : ℕ). c.args.self.at.settled < n) (sym c.choices.ensures.count ∙ c.choices.ensures.value) below))
 ]

@@ -1,11 +1,11 @@
 -- `run`: each turn is one step, and what is left to do is the rest.
-use Rattle.std.proofs.Common.{◌≡◌, suc, ◌+◌, ◌-◌, ◌<◌, true, sym, ap, ◌∙◌, subst, arith}
+use Rattle.std.proofs.Common.{◌≡◌, suc, ◌+◌, ◌-◌, ◌<◌, ◌≤◌, true, sym, ap, ◌∙◌, subst, arith}
 use Rattle.std.proofs.lemmas.Bool.{eq-eqb}
 use Rattle.clearing.specs.Lawful.{view, choices}
 use Rattle.clearing.proofs.ClosedRanges.{ranged-closing}
 use Rattle.clearing.proofs.Judged.{worth_tells}
 use Rattle.search.specs.Search.{Standing, Placed, Leads, finished, after_step, after_steps}
-use Rattle.search.proofs.Placings.{Moved, not-finished, step-placed, finished-stays, goes_on, moves_on}
+use Rattle.search.proofs.Placings.{Moved, not-finished, step-placed, finished-stays, goes_on, moves_on, settles}
 use Rattle.search.proofs.Leadings.{step-leads}
 use Rattle.search.proofs.positions.Position.run.Goals as goal
 
@@ -31,13 +31,28 @@ loop-preserved g c =
       unmoved = λ none. absurd (omega arith);
     }
 
-pub returns-after-loop-clause-value : goal.returns-after-loop-clause-value
-returns-after-loop-clause-value g c = λ placed. sym (c.loop.invariant.leads_on placed 0 (omega arith))
-
-pub returns-then-at-all-clause-value : goal.returns-then-at-all-clause-value
-returns-then-at-all-clause-value g c = λ placed.
+pub returns-after-loop-clause-runs : goal.returns-after-loop-clause-runs
+returns-after-loop-clause-runs g c = λ placed.
+    let inv = c.loop.invariant in
     let v = view c.args.docket.now in
-    let most = (c.loop.invariant.placed placed).most in
-    let done : finished v c.loop.at ≡ true = eq-eqb _ _ (omega (arith, c.if-at-all.true, c.choices-all.ensures.count, ap (λ (a : Standing). a.settled) c.at.view_is)) in
+    record {
+      steps = sym (inv.leads_on placed 0 (omega arith));
+      placed = inv.placed placed;
+      settles = λ below few. settles v c.args.self c.loop.at c.loop.counter placed below (omega arith) (inv.moved placed);
+      leads = inv.leads placed;
+    }
+
+pub returns-then-at-all-clause-runs : goal.returns-then-at-all-clause-runs
+returns-then-at-all-clause-runs g c = λ placed.
+    let v = view c.args.docket.now in
+    let inv = c.loop.invariant in
+    let all : choices v ≤ c.loop.at.settled = omega (arith, c.if-at-all.true, c.choices-all.ensures.count, ap (λ (a : Standing). a.settled) c.at.view_is) in
+    let most = (inv.placed placed).most in
+    let done : finished v c.loop.at ≡ true = eq-eqb _ _ (omega arith) in
     let rest = c.args.steps - c.loop.counter in
-    sym (c.loop.invariant.leads_on placed rest (omega arith) ∙ finished-stays (g.B.BoundingRule.answers c.args.rule.now) v rest c.loop.at done)
+    record {
+      steps = sym (inv.leads_on placed rest (omega arith) ∙ finished-stays (g.B.BoundingRule.answers c.args.rule.now) v rest c.loop.at done);
+      placed = inv.placed placed;
+      settles = λ below few. omega arith;
+      leads = inv.leads placed;
+    }
