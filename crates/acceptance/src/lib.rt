@@ -8,6 +8,10 @@ ghost use Rattle.acceptance.specs.WorkedRounds.{TwelveRounds};
 #[cfg(test)]
 mod awards;
 #[cfg(test)]
+mod failing;
+#[cfg(test)]
+mod failures;
+#[cfg(test)]
 mod filing;
 #[cfg(test)]
 mod fixtures;

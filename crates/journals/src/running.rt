@@ -98,7 +98,6 @@ fn run<T: Watch>(heap: Global, lines: Vec<Line>, watch: &mut T) -> Result<Transc
 #[cfg(test)]
 mod tests {
     use super::*;
-    use printing::{CutOff, Full};
     use std::process::Abort;
     use std::test::*;
 
@@ -139,27 +138,6 @@ mod tests {
         choice 1 surplus 30 sold 10 0 0 0 0 0 0 0 0 0 0 0 0 0 0 0 0 0 0 0 0 0 0 0 0 0 0 0 0 0 0 0 0 0 0 0 0 0 0 0 0 0 0 \
         0 0 0 0 0 0 0 0 0 0 0 0 0 0 0 0 0 0 0 0 0\ndone\nnot taken while open\n";
         check_run(&rt, text, false, want)
-    }
-
-    #[test]
-    fn failures_come_out(rt: HostRuntime) {
-        let mut output = Vec::new(rt.alloc());
-        match run_journal(rt.alloc(), CutOff { is_cut: false }, &mut output, &mut ()) {
-            Ok(_) => assert!(rt; false, "answered half a journal"),
-            Err(e) => assert!(rt; e.kind() == ErrorKind::TimedOut),
-        }
-        assert!(rt; output.is_empty());
-        for (journal, kept) in [
-            ("award", "not taken while open"),
-            ("awrd", "line 1: the first wo"),
-        ] {
-            let mut full = Full::new(rt.alloc(), 20);
-            match run_journal(rt.alloc(), journal.as_bytes(), &mut full, &mut ()) {
-                Ok(_) => assert!(rt; false, "wrote past the end"),
-                Err(e) => assert!(rt; e.kind() == ErrorKind::BrokenPipe),
-            }
-            assert_eq!(rt; full.kept.as_slice(), kept.as_bytes());
-        }
     }
 
     // Keeps the last note, and counts all.

@@ -1,7 +1,6 @@
 //! What programs print: a text, written at once when all of it is made; and how far a search or a run is, on standard error.
 #![tactic(auto)]
 
-mod failing;
 mod meters;
 mod texts;
 
@@ -10,6 +9,3 @@ pub use texts::write_text;
 
 /// Says how far a search or a run is.
 pub use meters::Meter;
-
-/// A reader and a writer that fail, to try programs with.
-pub use failing::{CutOff, Full};

@@ -76,8 +76,6 @@ fn clear<P: Progress>(
 #[cfg(test)]
 mod tests {
     use super::*;
-    use printing::{CutOff, Full};
-    use std::io::ErrorKind;
     use std::test::*;
 
     // Wants to know nothing.
@@ -103,23 +101,5 @@ mod tests {
             assert_eq!(rt; output.as_slice(), text.as_bytes());
         }
         Ok(())
-    }
-
-    #[test]
-    fn failures_come_out(rt: HostRuntime) {
-        let mut output = Vec::new(rt.alloc());
-        let reader = CutOff { is_cut: false };
-        match answer_sheet(rt.alloc(), reader, &mut output, Rules::Quick, &mut Silent) {
-            Ok(_) => assert!(rt; false, "answered half a sheet"),
-            Err(e) => assert!(rt; e.kind() == ErrorKind::TimedOut),
-        }
-        assert!(rt; output.is_empty());
-        let sheet: &[u8] = b"";
-        let mut full = Full::new(rt.alloc(), 20);
-        match answer_sheet(rt.alloc(), sheet, &mut full, Rules::Quick, &mut Silent) {
-            Ok(_) => assert!(rt; false, "wrote past the end"),
-            Err(e) => assert!(rt; e.kind() == ErrorKind::BrokenPipe),
-        }
-        assert_eq!(rt; full.kept.as_slice(), "open 0 choices 1\nsur".as_bytes());
     }
 }

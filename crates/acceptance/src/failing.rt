@@ -1,4 +1,4 @@
-//! Readers and writers that fail, to try programs with.
+//! A reader and a writer that fail.
 use std::alloc::Global;
 use std::io;
 use std::io::{ErrorKind, Read, Write};
@@ -20,7 +20,7 @@ impl Read for CutOff {
     }
 }
 
-/// Takes so many bytes more, which it keeps, and then fails.
+/// Keeps so many bytes more, and then fails.
 #[derive(Drop)]
 pub struct Full {
     pub room: usize,
@@ -41,10 +41,10 @@ impl Write for Full {
         if self.room == 0 {
             return Err(io::Error::from(ErrorKind::BrokenPipe));
         }
-        let taken = buf.len().min(self.room);
-        self.kept.extend_from_slice(&buf[..taken])?;
-        self.room -= taken;
-        Ok(taken)
+        let count = buf.len().min(self.room);
+        self.kept.extend_from_slice(&buf[..count])?;
+        self.room -= count;
+        Ok(count)
     }
 
     fn flush(&mut self) -> io::Result<()> {
