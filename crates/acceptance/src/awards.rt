@@ -3,6 +3,7 @@ use crate::fixtures::{
     Clearing, Told, band, check_answers, check_clearing, excluded, filing, four_packages, limit,
     needs, package, row, six_bands, unqualified,
 };
+use crate::worked_rounds::{ALL_BUT_2, ALL_FOUR};
 use bounds::{AllIn, BoundingRule, Ceiling, Joined, Limits, OneByOne, Shares, Tangent};
 use offers::{Date, Kind, Limit, Offer, Package};
 use pricing::{Filed, Place, ZoneNumbers};
@@ -75,39 +76,25 @@ fn percentage(zone: u8, amount: u32) -> Limit {
 // Packages 1, 3 and 4 sell 80 MW and 240,000 certificates. The third's 20 MW are 25 per cent, its 90,000 certificates 37.5.
 #[test]
 fn percentages_kept(rt: HostRuntime) -> Result<(), Fail> {
-    let all_but_2 = Clearing {
-        choices: 16,
-        packages: &[1, 3, 4],
-        choice: 13,
-        surplus: 123_500_000,
-        sales: &[50, 30, 150_000, 90_000, 150_000, 90_000],
-    };
-    check_dated(&rt, Date::After, percentage(POWER_AFTER, 25), &all_but_2)?;
+    check_dated(&rt, Date::After, percentage(POWER_AFTER, 25), &ALL_BUT_2)?;
     check_dated(
         &rt,
         Date::Before,
         percentage(CERTIFICATES_BEFORE, 38),
-        &all_but_2,
+        &ALL_BUT_2,
     )?;
     check_dated(
         &rt,
         Date::After,
         percentage(CERTIFICATES_AFTER, 38),
-        &all_but_2,
+        &ALL_BUT_2,
     )
 }
 
 // All four sell more power, but no more certificates.
 #[test]
 fn percentages_broken(rt: HostRuntime) -> Result<(), Fail> {
-    let all = Clearing {
-        choices: 16,
-        packages: &[1, 2, 3, 4],
-        choice: 15,
-        surplus: 118_500_000,
-        sales: &[50, 40, 150_000, 90_000, 150_000, 90_000],
-    };
-    check_dated(&rt, Date::After, percentage(POWER_AFTER, 24), &all)?;
+    check_dated(&rt, Date::After, percentage(POWER_AFTER, 24), &ALL_FOUR)?;
     let all_but_3 = Clearing {
         choices: 16,
         packages: &[1, 2, 4],
@@ -178,14 +165,7 @@ fn zones_of_limits_apart(rt: HostRuntime) -> Result<(), Fail> {
 fn chain_of_pairs(rt: HostRuntime) -> Result<(), Fail> {
     let pairs = [needs(1, 4), needs(4, 2)];
     let requests = filing(rt.alloc(), &four_packages(), &six_bands(), &pairs)?;
-    let expected = Clearing {
-        choices: 16,
-        packages: &[1, 2, 3, 4],
-        choice: 15,
-        surplus: 118_500_000,
-        sales: &[50, 40, 150_000, 90_000, 150_000, 90_000],
-    };
-    check_clearing(&rt, requests, &expected)
+    check_clearing(&rt, requests, &ALL_FOUR)
 }
 
 // A group with one member left forbids nothing, and a band that is withdrawn buys nothing.

@@ -1,11 +1,11 @@
 //! The twelve worked rounds of docs/RULES.md, a test each. Each names the fields of `TwelveRounds` that say the same, proved.
 use crate::fixtures::{
-    Clearing, TWO_PACKAGES, Told, UsualRequest, band, check_clearing, check_run, check_same,
+    Clearing, LEAST, TWO_PACKAGES, Told, UsualRequest, check_clearing, check_run, check_same,
     excluded, filing, four_packages, limit, needs, package, six_bands, stack, unqualified,
 };
 use bounds::{AllIn, Block, BoundingRule, CEILING, Ceiling};
 use clearing::{Docket, worth};
-use offers::{Code, Kind, Offer, Offers, Package, Refusal};
+use offers::{Band, Code, Entry, Kind, Offer, Offers, Package, Refusal};
 use pricing::{Filed, PriceRule};
 use rounds::{Request, Stage, replay};
 use sheets::catch_up;
@@ -13,43 +13,21 @@ use std::alloc::{AllocError, Global};
 use std::process::Abort;
 use std::test::*;
 
-// Where a search stands after a step.
+// Where a search stands after a step; k is of the block that is next.
 #[derive(Clone, Copy)]
 struct After {
     settled: u64,
-    // the k of the block that is next
-    free: u8,
+    k: u8,
 }
 
 const UNDER_CEILING: &[After] = &[
-    After {
-        settled: 2,
-        free: 1,
-    },
-    After {
-        settled: 2,
-        free: 0,
-    },
-    After {
-        settled: 3,
-        free: 0,
-    },
-    After {
-        settled: 4,
-        free: 2,
-    },
+    After { settled: 2, k: 1 },
+    After { settled: 2, k: 0 },
+    After { settled: 3, k: 0 },
+    After { settled: 4, k: 2 },
 ];
 
-const UNDER_ALL_IN: &[After] = &[
-    After {
-        settled: 2,
-        free: 1,
-    },
-    After {
-        settled: 4,
-        free: 2,
-    },
-];
+const UNDER_ALL_IN: &[After] = &[After { settled: 2, k: 1 }, After { settled: 4, k: 2 }];
 
 // The two-package round, closed as filed, and a search of so many calls of one step each.
 fn searched_by_steps<B: Copy>(
@@ -81,7 +59,7 @@ fn check_steps<R: Abort + AllocGlobal, B: BoundingRule + Copy + Drop>(
             Stage::Closed(at) => (at, false),
             Stage::Awarded(at) => (at, true),
         };
-        assert_eq!(rt; (at.settled, at.free), (step.settled, step.free));
+        assert_eq!(rt; (at.settled, at.free), (step.settled, step.k));
         assert_eq!(rt; (at.leader, at.surplus), (1, 30));
         assert_eq!(rt; is_last, step.settled == 4);
     }
@@ -142,8 +120,8 @@ fn four_filed(heap: Global, others: &[Offer]) -> Result<Vec<UsualRequest>, Alloc
     filing(heap, &four_packages(), &six_bands(), others)
 }
 
-// All packages but the second, of the four-package round.
-const ALL_BUT_2: Clearing = Clearing {
+/// All packages but the second, of the four-package round.
+pub const ALL_BUT_2: Clearing = Clearing {
     choices: 16,
     packages: &[1, 3, 4],
     choice: 13,
@@ -151,8 +129,8 @@ const ALL_BUT_2: Clearing = Clearing {
     sales: &[50, 30, 150_000, 90_000, 150_000, 90_000],
 };
 
-// All of them.
-const ALL_FOUR: Clearing = Clearing {
+/// All of them.
+pub const ALL_FOUR: Clearing = Clearing {
     choices: 16,
     packages: &[1, 2, 3, 4],
     choice: 15,
@@ -236,8 +214,8 @@ fn round_8_nameplates_within_49(rt: HostRuntime) -> Result<(), Fail> {
     check_clearing(&rt, requests, &expected)
 }
 
-// Package 3 is dated before: 25 per cent are enough for its 20 MW of 80, and of 24 only 90 MW are. Fields
-// `power_before_25_per_cent` and `power_before_24_per_cent`.
+// Package 3 is dated before: its 20 MW are 25 per cent of the 80 MW of packages 1, 3 and 4, and below 24 of the 90 MW of all.
+// Fields `power_before_25_per_cent` and `power_before_24_per_cent`.
 #[test]
 fn round_9_power_before_a_percentage(rt: HostRuntime) -> Result<(), Fail> {
     let mut packages = four_packages();
@@ -284,9 +262,11 @@ fn round_10_own_prices_rounded_up(rt: HostRuntime) -> Result<(), Fail> {
 }
 
 // A package of the two-package round.
-fn ten_for_20() -> Offer {
-    Offer::Package(package(0, 10, 0, 20))
-}
+const TEN_FOR_20: Package = Package {
+    energy: 10,
+    price: 20,
+    ..LEAST
+};
 
 // Package 2 of the two-package round is filed and withdrawn, and then the sheet of that round comes, with package 2 for
 // this price. It is answered so, and then these entries stand.
@@ -301,7 +281,7 @@ fn check_sheet<R: Abort + AllocGlobal>(
     sheet[64] = price;
     let sheet = sheet.to_vec(heap)?;
     let requests: Vec<UsualRequest> = vec![in heap;
-        Request::File(2, ten_for_20()),
+        Request::File(2, Offer::Package(TEN_FOR_20)),
         Request::Withdraw(Kind::Package, 2),
         Request::CatchUp(sheet),
     ]?;
@@ -314,10 +294,13 @@ fn check_sheet<R: Abort + AllocGlobal>(
 #[test]
 fn round_11_a_withdrawal_outlives_an_older_sheet(rt: HostRuntime) -> Result<(), Fail> {
     let mut expected = Offers::vacant();
-    expected.file(1, ten_for_20())?;
-    expected.file(2, ten_for_20())?;
-    expected.withdraw(Kind::Package, 2)?;
-    expected.file(1, band(4, 10, 5))?;
+    expected.packages.entries[0] = Entry::Open(TEN_FOR_20);
+    expected.packages.entries[1] = Entry::Withdrawn(TEN_FOR_20);
+    expected.bands.entries[0] = Entry::Open(Band {
+        market: 4,
+        quantity: 10,
+        price: 5,
+    });
     check_sheet(&rt, 20, Told::Done, &expected)
 }
 
@@ -325,8 +308,7 @@ fn round_11_a_withdrawal_outlives_an_older_sheet(rt: HostRuntime) -> Result<(), 
 #[test]
 fn round_12_a_clash(rt: HostRuntime) -> Result<(), Fail> {
     let mut expected = Offers::vacant();
-    expected.file(2, ten_for_20())?;
-    expected.withdraw(Kind::Package, 2)?;
+    expected.packages.entries[1] = Entry::Withdrawn(TEN_FOR_20);
     let clash = Refusal {
         tag: 1,
         number: 2,
