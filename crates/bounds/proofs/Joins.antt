@@ -18,7 +18,7 @@ use Rattle.clearing.specs.Ranges.{fits, package_fits}
 use Rattle.clearing.specs.Tallies.{row, tally_of}
 use Rattle.clearing.proofs.Fits.{each-most, pair_ranges, ExclusionRanges, exclusion_ranges, PackageRanges, priced_ranges}
 use Rattle.clearing.proofs.Held.{no_exclusion}
-use Rattle.clearing.proofs.Judged.{pairs_tell, groups_tell, zones_tell}
+use Rattle.clearing.proofs.Judged.{pairs_tell, exclusions_tell, zones_tell}
 use Rattle.clearing.proofs.RowRules.{row_at, all_both}
 use Rattle.clearing.proofs.Rows.{getD_row}
 use Rattle.clearing.proofs.Tallying.{Bounded}
@@ -122,7 +122,7 @@ module _ (T : List PricedPackage) (t : Tally) (counted : t ≡ tally_of T) (xs :
   known : Every Known xs
   known =
       All-weaker _ _ (λ f all. record { ranges = exclusion_ranges f all.1; one = all.0.0; most = all.0.1 }) xs
-      ((all_both _ _ xs).1 ((all_both _ _ xs).1 ((groups_tell xs T).0 kept, own-most t.takes xs), ranged))
+      ((all_both _ _ xs).1 ((all_both _ _ xs).1 ((exclusions_tell xs T).0 kept, own-most t.takes xs), ranged))
 
   -- what stands at the place of a group
   head-at : (e : Exclusion) → ExclusionRanges e → get_or heads (e.group - 1) 0 ≡ head t.takes xs e.group
@@ -172,7 +172,7 @@ module _ (T : List PricedPackage) (t : Tally) (counted : t ≡ tally_of T) (xs :
       (λ it. or_right _ _ (eq-eqb _ e.member (head-at e r ∙ it)))
       stands) xs ((all_both _ _ xs).1 (rule, ranged)))
       (cleared_decides (λ (e : Exclusion). e.member) (unopposed heads) p.number xs))
-      (groups_tell xs (p ∷ T))
+      (exclusions_tell xs (p ∷ T))
 
 module _ (sort zone n : ℕ) where
   -- a load within the least of a zone's limits of a sort is within each
@@ -288,7 +288,7 @@ module _ (d : Docket) (T W : List PricedPackage) where
       and_from _ _
       ((pairs_tell pairs T W).1 (All-weaker _ _ (λ q rule. λ has. rule (they-are T p q.dependent has)) pairs ((pairs_tell pairs (p ∷ T) W).0 one.0)))
       (and_from _ _
-      ((groups_tell xs T).1 (All-weaker _ _ (λ e. All-weaker _ _ (λ f rule. λ same one other. rule same (they-are T p e.member one) (they-are T p f.member other)) xs) xs ((groups_tell xs (p ∷ T)).0 two.0)))
+      ((exclusions_tell xs T).1 (All-weaker _ _ (λ e. All-weaker _ _ (λ f rule. λ same one other. rule same (they-are T p e.member one) (they-are T p f.member other)) xs) xs ((exclusions_tell xs (p ∷ T)).0 two.0)))
       ((zones_tell ls T).1 (All-weaker _ _ (λ l rule. ((λ is. omega (arith, rule.0 is)), (λ is. omega (arith, rule.1 is)))) ls ((zones_tell ls (p ∷ T)).0 two.1))))
 
   -- so where they do not, none could

@@ -16,11 +16,11 @@ use Rattle.clearing.proofs.FillingSums.{where_same, times_least, all_of, all_bot
 use Rattle.clearing.proofs.FillingOrder.{InOrder, at_least, at_least-front, share, front-filled}
 
 -- the fields of bands in range
-pub ranged : (bs : List OpenBand) → list_all band_fits bs ≡ true → Every OpenRanges bs
-ranged [] ok = tt
-ranged (b ∷ bs) ok =
+pub ranges_of : (bs : List OpenBand) → list_all band_fits bs ≡ true → Every OpenRanges bs
+ranges_of [] ok = tt
+ranges_of (b ∷ bs) ok =
     let parts = and_parts (band_fits b) (list_all band_fits bs) ok in
-    (open_ranges b parts.0, ranged bs parts.1)
+    (open_ranges b parts.0, ranges_of bs parts.1)
 
 -- what is sold in a market is what its bands of any price are sold
 sold_all : (m : ℕ) (bs : List OpenBand) (ss : List ℕ) → sold bs ss m ≡ sold_where (at_least m 0) bs ss
@@ -154,14 +154,14 @@ supplies v choice m = supply m (taken v.packages choice)
 -- the filled sales of a choice are within its supply
 pub filled_within : (v : View) (choice m : ℕ) → InOrder v → list_all band_fits v.bands ≡ true → sold v.bands (filled_sales v choice) m ≤ supply m (taken v.packages choice)
 filled_within v choice m order fit =
-    omega (arith, filled-market v.bands (supplies v choice) order.numbers order.ahead (ranged v.bands fit) m)
+    omega (arith, filled-market v.bands (supplies v choice) order.numbers order.ahead (ranges_of v.bands fit) m)
 
 -- no lawful sales sell more in a market
 sold-most : (v : View) (choice : ℕ) → InOrder v → list_all band_fits v.bands ≡ true → (ss : List ℕ) → Lawful v choice ss
     → (m : ℕ) → sold v.bands ss m ≤ sold v.bands (filled_sales v choice) m
 sold-most v choice order fit ss l m =
     let parts = parts_of_one v.bands ss l.within_quantities in
-    omega (arith, market-most v.bands (supplies v choice) order.numbers order.ahead (ranged v.bands fit) 1 ss parts (λ m. omega (arith, l.within_supply m)) m)
+    omega (arith, market-most v.bands (supplies v choice) order.numbers order.ahead (ranges_of v.bands fit) 1 ss parts (λ m. omega (arith, l.within_supply m)) m)
 
 -- the filled sales are lawful where any are, since they keep the percentages that smaller sales keep; and no sales bring more
 pub best-filled : (v : View) (choice : ℕ) → InOrder v → list_all band_fits v.bands ≡ true → BestFilled v choice
@@ -181,5 +181,5 @@ best-filled v choice order fit = record {
         certificates_after = omega (arith, l.certificates_after, more 5 (percentage v.limits 4));
       };
   most = λ d least ss parts few.
-      income-most v.bands (supplies v choice) order.numbers order.ahead (ranged v.bands fit) d ss parts few;
+      income-most v.bands (supplies v choice) order.numbers order.ahead (ranges_of v.bands fit) d ss parts few;
 }

@@ -35,9 +35,9 @@ pub pairs_tell : (pairs : List Pair) (T W : List PricedPackage)
 pairs_tell pairs T W = each_decides _ _ (λ p. implies_decides _ _ (itself _) (itself _)) pairs
 
 -- the rule of exclusions
-pub groups_tell : (xs : List Exclusion) (T : List PricedPackage)
+pub exclusions_tell : (xs : List Exclusion) (T : List PricedPackage)
     → Decides (exclusions_kept xs T) (Every (λ e. Every (λ f. e.group ≡ f.group → has_number e.member T ≡ true → has_number f.member T ≡ true → e.member ≡ f.member) xs) xs)
-groups_tell xs T =
+exclusions_tell xs T =
     each_decides _ _ (λ e. each_decides _ _ (λ f.
     let all = implies_decides _ _ (Decides-and _ _ (Decides-eqb e.group f.group) (Decides-and _ _ (itself (has_number e.member T)) (itself (has_number f.member T)))) (Decides-eqb e.member f.member) in
     ((λ t same one other. all.0 t (same, (one, other))), (λ rule. all.1 (λ both. rule both.0 both.1.0 both.1.1)))) xs) xs
@@ -62,7 +62,7 @@ module _ (T : List PricedPackage) (t : Tally) (counted : t ≡ tally_of T) (r : 
   pub groups_tested : (xs : List Exclusion) → list_all (fits exclusion_layout) xs ≡ true → Decides r (ExclusionsKept xs t.takes) → r ≡ exclusions_kept xs T
   groups_tested xs ok decides =
       let same = exclusions-same T t counted xs ok in
-      same_from_decides r _ (Decides-like r same.0 same.1 decides) (groups_tell xs T)
+      same_from_decides r _ (Decides-like r same.0 same.1 decides) (exclusions_tell xs T)
 
   -- so for the limits of zones
   pub zones-tested : (ls : List Limit) → list_all (fits limit_layout) ls ≡ true → Decides r (ZonesKept ls t.nameplate t.export) → r ≡ zones_kept ls T
@@ -115,7 +115,7 @@ pub passes_tell : (v : View) → Ranged v → (choice : ℕ) → Decides (passes
 passes_tell v ranged choice =
     let T = taken v.packages choice in
     let sales = filled_sales v choice in
-    let tests = Decides-and _ _ (pairs_tell v.pairs T T) (Decides-and _ _ (groups_tell v.exclusions T) (Decides-and _ _ (zones_tell v.limits T) (dates_tell v T sales))) in
+    let tests = Decides-and _ _ (pairs_tell v.pairs T T) (Decides-and _ _ (exclusions_tell v.exclusions T) (Decides-and _ _ (zones_tell v.limits T) (dates_tell v T sales))) in
     Decides-like _
     (λ rules.
     let zones = (all_both _ _ v.limits).0 rules.1.1.0 in

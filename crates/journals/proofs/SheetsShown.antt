@@ -16,7 +16,7 @@ use Rattle.sheets.specs.Writing.{entry_bytes, register_bytes, kind_bytes, sheet_
 use Rattle.rounds.specs.Model as model
 use Rattle.rounds.specs.Model.{PlainStage, written}
 use Rattle.journals.specs.declared.lines.Shown.{Shown}
-use Rattle.journals.specs.declared.lines.Shown.TheVariants.{Whole, Written}
+use Rattle.journals.specs.declared.lines.Shown.TheVariants.{Whole, Filled}
 use Rattle.journals.specs.Answers.{answer_text, sheet_text, shown_bytes}
 use Rattle.journals.specs.Calls.{fullest}
 use Rattle.journals.specs.Laws.{SheetsShown}
@@ -64,7 +64,7 @@ sheets_shown all stage sound =
     let s = sheet_of all in
     let n = length s in
     let most = sheet-length all sound in
-    fills Written stage all (replicate fullest 0) (omega (arith, length-replicate {A = ℕ} fullest 0))
+    fills Filled stage all (replicate fullest 0) (omega (arith, length-replicate {A = ℕ} fullest 0))
     ∙ (ap (sheet_text n) (take_at s (drop n (replicate fullest 0)) n refl)
     ∙ sym (fills Whole stage all (replicate n 0) (omega (arith, length-replicate {A = ℕ} n 0))
     ∙ ap (sheet_text n) (ap (λ rest. s ++ rest) (drop_all n (replicate n 0) (omega (arith, length-replicate {A = ℕ} n 0))) ∙ append-nil s)))

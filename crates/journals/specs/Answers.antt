@@ -8,7 +8,7 @@ use Rattle.offers.specs.Refusals.{code_number}
 use Rattle.rounds.specs.declared.awarded_round.Award.{Award}
 use Rattle.rounds.specs.Model.{Answer, Done, Found, Reopened, Awarded, Written, NotTaken, PlainStage, AtOpen, AtClosed, AtAwarded}
 use Rattle.journals.specs.declared.lines.Shown.{Shown}
-use Rattle.journals.specs.declared.lines.Shown.TheVariants.{Whole, Written as OnlyWritten}
+use Rattle.journals.specs.declared.lines.Shown.TheVariants.{Whole, Filled}
 
 -- a code with all its values
 abbrev pub refusal_text : Refusal → List ℕ
@@ -37,7 +37,7 @@ bytes_text (b ∷ bs) = 32 ∷ encode_lower (b ∷ bs)
 -- what is shown of a buffer whose first bytes a sheet of this length fills
 abbrev pub shown_bytes : Shown → ℕ → List ℕ → List ℕ
 shown_bytes Whole length buffer = buffer
-shown_bytes OnlyWritten length buffer = take length buffer
+shown_bytes Filled length buffer = take length buffer
 
 -- the sheet's length, and the bytes that are shown
 abbrev pub sheet_text : ℕ → List ℕ → List ℕ

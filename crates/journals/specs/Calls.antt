@@ -1,4 +1,5 @@
 -- The calls that lines stand for, and what is shown of their buffers.
+use Rattle.offers.specs.Tables.{PACKAGES, BANDS, PAIRS, EXCLUSIONS, LIMITS}
 use Rattle.std.specs.Prelude.{ℕ, ◌+◌, ◌*◌, map, replicate, Some, None, Option}
 use Rattle.pricing.specs.Prices.{filed_price, place_price, currency_price, Meaning}
 use Rattle.bounds.specs.Blocks.{Answers}
@@ -24,7 +25,7 @@ answers_of rules = chained (named rules.first) (map named rules.others)
 
 -- the bytes of a sheet of a round that holds an offer under every number: for each kind so many fields of so many bytes
 abbrev pub fullest : ℕ
-fullest = 40 * 36 + 64 * 14 + 64 * 7 + 64 * 7 + 32 * 11
+fullest = PACKAGES * 36 + BANDS * 14 + PAIRS * 7 + EXCLUSIONS * 7 + LIMITS * 11
 
 -- the length of the buffer that is lent
 abbrev pub buffer_length : Option ℕ → ℕ
@@ -45,5 +46,5 @@ call_said (Sheet length) = model.WriteSheet (replicate (buffer_length length) 0)
 -- of a buffer whose length is not said only the sheet's own bytes are shown: a sheet fills the first bytes, so they are what a
 -- buffer as long as the sheet would hold
 abbrev pub shown_of : Said → Shown
-shown_of (Sheet None) = shown.Written
+shown_of (Sheet None) = shown.Filled
 shown_of said = shown.Whole

@@ -4,7 +4,7 @@ use Rattle.std.specs.List.{AllByRecursion as Every}
 use Rattle.offers.specs.Memory.{Entries, Sound}
 use Rattle.sheets.specs.Writing.{sheet_of}
 use Rattle.rounds.specs.Model.{PlainStage, written}
-use Rattle.journals.specs.declared.lines.Shown.TheVariants.{Whole, Written}
+use Rattle.journals.specs.declared.lines.Shown.TheVariants.{Whole, Filled}
 use Rattle.journals.specs.Answers.{answer_text}
 use Rattle.journals.specs.Calls.{fullest}
 use Rattle.journals.specs.Journals.{journal_in}
@@ -22,4 +22,4 @@ JournalsReadBack = (lines : List Said) → Every Fits lines → journal_in (jour
 -- a line that asks for a sheet and says no length is answered as if it had lent a buffer just as long as the sheet
 abbrev pub SheetsShown : Type 0
 SheetsShown = (all : Entries) (stage : PlainStage) → Sound all →
-    answer_text Written stage (written all (replicate fullest 0)) ≡ answer_text Whole stage (written all (replicate (length (sheet_of all)) 0))
+    answer_text Filled stage (written all (replicate fullest 0)) ≡ answer_text Whole stage (written all (replicate (length (sheet_of all)) 0))

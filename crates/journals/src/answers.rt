@@ -102,7 +102,7 @@ fn shown_bytes(shown: Shown, length: usize, buffer: &[u8]) -> &[u8]
 {
     match shown {
         Shown::Whole => buffer,
-        Shown::Written => &buffer[..length.min(buffer.len())],
+        Shown::Filled => &buffer[..length.min(buffer.len())],
     }
 }
 
@@ -218,7 +218,7 @@ mod tests {
             ),
             (
                 Reply::Written(Ok(0), vec![in heap; 0]?),
-                Shown::Written,
+                Shown::Filled,
                 "sheet 0",
             ),
             (
@@ -228,7 +228,7 @@ mod tests {
             ),
             (
                 Reply::Written(Ok(2), vec![in heap; 171, 15, 0]?),
-                Shown::Written,
+                Shown::Filled,
                 "sheet 2 ab0f",
             ),
             (

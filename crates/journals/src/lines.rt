@@ -27,7 +27,7 @@ pub enum Shown {
     /// all its bytes
     Whole,
     /// those that the sheet filled
-    Written,
+    Filled,
 }
 
 mod reading;

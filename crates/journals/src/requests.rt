@@ -8,6 +8,7 @@ ghost use Rattle.journals.specs.Stacks.{plain_stack};
 use crate::lines::{Line, Shown};
 use crate::stacks::{Stack, Weighing, Zones};
 use bounds::{BoundingRule, Chain, Named};
+use offers::{BANDS, EXCLUSIONS, LIMITS, PACKAGES, PAIRS};
 use pricing::{Currency, Filed, Place, PriceRule, Rates, ZoneNumbers};
 use rounds::{OneOf, Request};
 use std::alloc::{AllocError, Global};
@@ -16,7 +17,7 @@ use std::alloc::{AllocError, Global};
 pub type Pricing = OneOf<Filed, OneOf<Place<Filed>, Currency<Place<Filed>>>>;
 
 // The bytes of a sheet of a round that holds an offer under every number: for each kind so many fields of so many bytes.
-const FULLEST: usize = 40 * 36 + 64 * 14 + 64 * 7 + 64 * 7 + 32 * 11;
+const FULLEST: usize = PACKAGES * 36 + BANDS * 14 + PAIRS * 7 + EXCLUSIONS * 7 + LIMITS * 11;
 
 impl Zones {
     // The numbers as the place rule holds them.
@@ -91,7 +92,7 @@ impl Line {
         ensures { result ≡ shown_of (said self.now) }
     {
         match self {
-            Line::Sheet(None) => Shown::Written,
+            Line::Sheet(None) => Shown::Filled,
             _ => Shown::Whole,
         }
     }

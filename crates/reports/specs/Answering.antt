@@ -39,13 +39,17 @@ AnswersDocket (Err why) refused text = (refused ≡ true) × (text ≡ refused_t
 abbrev pub AnswersSheet : List ℕ → Bool → List ℕ → Type 0
 AnswersSheet sheet = AnswersDocket (sheet_docket sheet)
 
+-- the most bytes of a sheet that are read
+abbrev pub MAX_SHEET_BYTES : ℕ
+MAX_SHEET_BYTES = 4096
+
 -- A sheet is read and answered. Of the reader it takes the bytes that were left, of the writer those that it held before and after,
 -- where they are known.
 pub record Answered (left before after : Option (List ℕ)) (refused : Bool) : Type 0 where
   -- the sheet is all that was left, up to 4,096 bytes
   pub sheet : List ℕ
-  pub few : length sheet ≤ 4096
-  pub read : IfSome left (λ all. sheet ≡ take 4096 all)
+  pub few : length sheet ≤ MAX_SHEET_BYTES
+  pub read : IfSome left (λ all. sheet ≡ take MAX_SHEET_BYTES all)
   -- the text answers it, as no other does
   pub text : List ℕ
   pub answers : AnswersSheet sheet refused text

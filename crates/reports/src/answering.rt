@@ -1,7 +1,7 @@
 //! A sheet's whole way: its bytes are read, its round is cleared, and the text of its award or its refusal is written.
 ghost use Rattle.std.specs.Prelude.{◌≡◌, ◌≤◌, IfOk, IfSome, take, vec_len};
 ghost use Rattle.rounds.specs.Views.{of_open};
-ghost use Rattle.reports.specs.Answering.{Answered};
+ghost use Rattle.reports.specs.Answering.{Answered, MAX_SHEET_BYTES};
 ghost use Rattle.reports.specs.Cleared.{ClearsTo};
 ghost use Rattle.reports.specs.Searching.{searching};
 
@@ -16,7 +16,7 @@ use std::io;
 use std::io::{Read, Write};
 
 // The most bytes of a sheet that are read.
-const MOST: usize = 4096;
+const MAX_SHEET_BYTES: usize = 4096;
 
 /// Reads a sheet of at most 4,096 bytes, clears its round, searching by these rules, and writes the text of its award or its refusal,
 /// which is the same by any. Answers whether the sheet was refused. Nothing is written before the whole text is made.
@@ -44,16 +44,16 @@ pub fn answer_sheet<R: Read + Drop, W: Write, P: Progress>(
     }
 }
 
-// The bytes that come, up to MOST; the rest is left unread.
+// The bytes that come, up to MAX_SHEET_BYTES; the rest is left unread.
 fn read_sheet<R: Read + Drop>(heap: Global, input: R) -> io::Result<Vec<u8>>
-    ensures few { IfOk result (λ sheet. vec_len sheet ≤ 4096) }
-    ensures bytes { IfOk result (λ sheet. IfSome (R.remaining input) (λ all. sheet.items ≡ take 4096 all)) }
+    ensures few { IfOk result (λ sheet. vec_len sheet ≤ MAX_SHEET_BYTES) }
+    ensures bytes { IfOk result (λ sheet. IfSome (R.remaining input) (λ all. sheet.items ≡ take MAX_SHEET_BYTES all)) }
 {
     // room for one more, so that the end of a full sheet is found with no more memory
-    let mut sheet = Vec::with_capacity(heap, MOST + 1)?;
-    input.take(MOST as u64).read_to_end(&mut sheet)?;
+    let mut sheet = Vec::with_capacity(heap, MAX_SHEET_BYTES + 1)?;
+    input.take(MAX_SHEET_BYTES as u64).read_to_end(&mut sheet)?;
     // `take` promises its limit only where the bytes to come are known
-    sheet.truncate(MOST);
+    sheet.truncate(MAX_SHEET_BYTES);
     Ok(sheet)
 }
 

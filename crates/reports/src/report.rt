@@ -7,7 +7,7 @@ ghost use Rattle.reports.specs.Reports.{ReportsIn, sold_line};
 ghost use Rattle.reports.specs.Text.{report_text, refused_text};
 
 use clearing::Docket;
-use offers::Refusal;
+use offers::{BANDS, Refusal};
 use rounds::AwardedRound;
 use search::choices;
 use std::alloc::{AllocError, Global};
@@ -39,7 +39,7 @@ impl Report {
     pub fn new(heap: Global, round: &AwardedRound) -> Result<Report, AllocError>
         ensures { IfOk result (ReportsIn (of_awarded round.now).state) }
     {
-        let mut sold = [0u64; 64];
+        let mut sold = [0u64; BANDS];
         let Ok(award) = round.award(&mut sold) else {
             unreachable!()
         };
@@ -65,7 +65,11 @@ fn taken_numbers(heap: Global, docket: &Docket, choice: u64) -> Result<Vec<u8>, 
 }
 
 // What each open band is sold, of a row by offer number.
-fn sold_quantities(heap: Global, docket: &Docket, row: &[u64; 64]) -> Result<Vec<Sold>, AllocError>
+fn sold_quantities(
+    heap: Global,
+    docket: &Docket,
+    row: &[u64; BANDS],
+) -> Result<Vec<Sold>, AllocError>
     ensures { IfOk result (λ v. v.items ≡ map (sold_line row.now) docket.now.bands.list.items) }
 {
     docket

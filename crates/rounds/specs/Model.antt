@@ -1,4 +1,5 @@
 -- A plain round, and what each call does to it: fed only the calls' arguments and the rules' meanings.
+use Rattle.offers.specs.Tables.{BANDS}
 use Rattle.std.specs.Prelude.{ℕ, Bool, true, false, ◌&&◌, ◌||◌, List, [], ◌∷◌, ◌++◌, length, drop, ℤ, Ok, Err, Result, is_ok, nat_le, if◌then◌else◌}
 use Rattle.offers.specs.declared.kinds.Kind.{Kind}
 use Rattle.offers.specs.declared.memory.Offer.{Offer}
@@ -106,13 +107,13 @@ supplies v choice = row (λ m. supply m (taken v.packages choice)) 1 5
 
 -- what each band is sold of a choice, by offer number
 abbrev pub sold_row : View → ℕ → List ℕ
-sold_row v choice = row (sale_of v.bands (supplies v choice)) 1 64
+sold_row v choice = row (sale_of v.bands (supplies v choice)) 1 BANDS
 
--- the leader is the award; the row has 64 places
+-- the leader is the award; the row has a place for each band
 abbrev pub award : View → Standing → List ℕ → Answer
 award v at lent =
-    if nat_le 64 (length lent)
-    then Awarded (Ok (record { choice = at.leader; surplus = at.surplus })) (sold_row v at.leader ++ drop 64 lent)
+    if nat_le BANDS (length lent)
+    then Awarded (Ok (record { choice = at.leader; surplus = at.surplus })) (sold_row v at.leader ++ drop BANDS lent)
     else Awarded (Err (code_only NoRoom)) lent
 
 abbrev pub written : Entries → List ℕ → Answer

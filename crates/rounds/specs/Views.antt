@@ -35,7 +35,7 @@ docket_in (IsAwarded docket at) = docket
 
 -- what a call left and answered
 abbrev pub gave : Model → Answer → Stepped
-gave work_left answer = record { after = work_left; answer = answer }
+gave after answer = record { after = after; answer = answer }
 
 -- a closing gives a closed round, or the open one back with the refusal
 abbrev pub gave_closing : Result ClosedRound (OpenRound × Refusal) → Stepped
@@ -74,12 +74,12 @@ Falls (searched.Closed r) from = work_left r.at < work_left from
 Falls (searched.Awarded r) from = Unit {0}
 
 -- A closed round is searched to its end.
-pub record Finishes (before : Model) (rule : Answers) (work_left : Model) : Type 0 where
-  -- so many searches under a rule, each of so many steps, a number that a search takes, lead to what is left
+pub record Finishes (before : Model) (rule : Answers) (round : Model) : Type 0 where
+  -- so many searches under a rule, each of so many steps, a number that a search takes, lead to the round
   pub searches : ℕ
   pub steps : ℕ
   pub some : 1 ≤ steps
   pub most : steps ≤ 1000000
-  pub is : work_left ≡ after_from before (replicate searches (Search rule steps))
-  -- and what is promised of a run that led to the round is promised of what is left
-  pub run : (calls : List Call) → Every LawfulCall calls → after calls ≡ before → Promise (calls ++ replicate searches (Search rule steps)) work_left
+  pub is : round ≡ after_from before (replicate searches (Search rule steps))
+  -- and what is promised of a run that led to the round is promised of the round
+  pub run : (calls : List Call) → Every LawfulCall calls → after calls ≡ before → Promise (calls ++ replicate searches (Search rule steps)) round

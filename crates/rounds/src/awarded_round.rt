@@ -4,7 +4,7 @@ ghost use Rattle.clearing.specs.Lawful.{view, choices};
 
 use crate::open_round::OpenRound;
 use clearing::{Docket, Tally, sales_row};
-use offers::{Code, Offers, Refusal};
+use offers::{BANDS, Code, Offers, Refusal};
 use search::Position;
 use sheets::write_sheet;
 
@@ -33,12 +33,12 @@ impl AwardedRound {
     pub fn award(&self, row: &mut [u64]) -> Result<Award, Refusal>
         ensures { Serves (of_awarded self.now) (ReadAward row.old) (gave (of_awarded self.now) (Awarded result row.new)) }
     {
-        if row.len() < 64 {
+        if row.len() < BANDS {
             return Err(Refusal::code_only(Code::NoRoom));
         }
         let taken = Tally::new(&self.docket, self.at.leader);
         let sold = sales_row(&self.docket, &taken.supply);
-        row[..64].copy_from_slice(&sold);
+        row[..BANDS].copy_from_slice(&sold);
         Ok(leader(self.at))
     }
 

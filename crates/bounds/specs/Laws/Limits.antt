@@ -9,9 +9,9 @@ use Rattle.clearing.specs.Choices.{taken, supplied, supply, dated}
 use Rattle.clearing.specs.Judging.{pairs_kept, exclusions_kept, zones_kept, dates_kept}
 use Rattle.clearing.specs.Lawful.{View, sold, percentage, Lawful, surplus, filled_sales}
 use Rattle.clearing.specs.Ranges.{package_fits}
-use Rattle.clearing.proofs.Filling.{ranged as ranges_of, market-most, best-filled, parts_of_one}
+use Rattle.clearing.proofs.Filling.{ranges_of, market-most, best-filled, parts_of_one}
 use Rattle.clearing.proofs.Incomes.{income-few}
-use Rattle.clearing.proofs.Judged.{pairs_tell, groups_tell, zones_tell, dates_tell}
+use Rattle.clearing.proofs.Judged.{pairs_tell, exclusions_tell, zones_tell, dates_tell}
 use Rattle.clearing.proofs.Ranged.{Ranged}
 use Rattle.clearing.proofs.RowRules.{all_both}
 use Rattle.clearing.proofs.Takings.{taken-fits, taken-few}
@@ -32,7 +32,7 @@ module _ (v : View) (ranged : Ranged v) (b : Span) (block : InDocket v b) where
       and_from _ _
       ((pairs_tell v.pairs T (possible v b)).1 (All-weaker _ _ (λ p needs has. more.among p.needed (needs (less.among p.dependent has))) v.pairs lawful.pairs))
       (and_from _ _
-      ((groups_tell v.exclusions T).1 (All-weaker _ _ (λ e. All-weaker _ _ (λ f apart same one other. apart same (less.among e.member one) (less.among f.member other)) v.exclusions) v.exclusions lawful.exclusions))
+      ((exclusions_tell v.exclusions T).1 (All-weaker _ _ (λ e. All-weaker _ _ (λ f apart same one other. apart same (less.among e.member one) (less.among f.member other)) v.exclusions) v.exclusions lawful.exclusions))
       ((zones_tell v.limits T).1 (All-weaker _ _ (λ l kept. ((λ is. le_trans (less.less _) (kept.0 is)), (λ is. le_trans (less.less _) (kept.1 is)))) v.limits zones)))
 
   -- so where those that all its choices take do not, no choice is lawful; and no surplus is above the ceiling

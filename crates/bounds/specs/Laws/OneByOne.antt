@@ -10,7 +10,7 @@ use Rattle.clearing.specs.declared.dockets.PricedPackage.{PricedPackage}
 use Rattle.clearing.specs.Choices.{taken, total, supplied, supply, cost, has_number}
 use Rattle.clearing.specs.Lawful.{View}
 use Rattle.clearing.proofs.Diminishing.{income-added}
-use Rattle.clearing.proofs.Filling.{ranged as ranges_of}
+use Rattle.clearing.proofs.Filling.{ranges_of}
 use Rattle.clearing.proofs.Held.{no_package}
 use Rattle.clearing.proofs.Ranged.{Ranged, filled-most}
 use Rattle.bounds.specs.Blocks.{Span, InDocket, Claims}

@@ -9,9 +9,9 @@ use Rattle.clearing.specs.Choices.{taken, supplied, supply, dated}
 use Rattle.clearing.specs.Judging.{pairs_kept, exclusions_kept, zones_kept, dates_kept}
 use Rattle.clearing.specs.Lawful.{View, sold, percentage, Lawful, surplus, filled_sales}
 use Rattle.clearing.specs.Ranges.{package_fits}
-use Rattle.clearing.proofs.Filling.{ranged as ranges_of, market-most, best-filled, parts_of_one}
+use Rattle.clearing.proofs.Filling.{ranges_of, market-most, best-filled, parts_of_one}
 use Rattle.clearing.proofs.Incomes.{income-few}
-use Rattle.clearing.proofs.Judged.{pairs_tell, groups_tell, zones_tell, dates_tell}
+use Rattle.clearing.proofs.Judged.{pairs_tell, exclusions_tell, zones_tell, dates_tell}
 use Rattle.clearing.proofs.Ranged.{Ranged}
 use Rattle.clearing.proofs.RowRules.{all_both}
 use Rattle.clearing.proofs.Takings.{taken-fits, taken-few}

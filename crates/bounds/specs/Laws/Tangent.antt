@@ -15,7 +15,7 @@ use Rattle.clearing.specs.Lawful.{View, income}
 use Rattle.clearing.specs.Sales.{filled}
 use Rattle.clearing.specs.Tallies.{row}
 use Rattle.clearing.proofs.Fits.{OpenRanges}
-use Rattle.clearing.proofs.Filling.{ranged as ranges_of, filled_of, filled-front}
+use Rattle.clearing.proofs.Filling.{ranges_of, filled_of, filled-front}
 use Rattle.clearing.proofs.FillingSums.{over-map, row_getD}
 use Rattle.clearing.proofs.FillingOrder.{at_least}
 use Rattle.clearing.proofs.Incomes.{income-next}
@@ -27,19 +27,19 @@ use Rattle.bounds.specs.Rules.{joins, live_ones, sold_above, gains_above, tangen
 use Rattle.bounds.specs.Laws.Splits.{taken-kept, each-next, choice-splits, taken-live}
 
 -- one amount at a market's place is worth that many of its units
-worth_one : (l : Multipliers) (market price amount : ℕ) → 1 ≤ market → market ≤ 5
+value_one : (l : Multipliers) (market price amount : ℕ) → 1 ≤ market → market ≤ 5
     → value_at l (λ m. cond (eqb market m && leb 0 price) amount 0) ≡ amount * unit_worth l market
-worth_one l zero price amount low high = absurd (omega arith)
-worth_one l (suc zero) price amount low high = grind (arith, nat_tests)
-worth_one l (suc (suc zero)) price amount low high = grind (arith, nat_tests)
-worth_one l (suc (suc (suc zero))) price amount low high = grind (arith, nat_tests)
-worth_one l (suc (suc (suc (suc zero)))) price amount low high = grind (arith, nat_tests)
-worth_one l (suc (suc (suc (suc (suc zero))))) price amount low high = grind (arith, nat_tests)
-worth_one l (suc (suc (suc (suc (suc (suc n)))))) price amount low high = absurd (omega arith)
+value_one l zero price amount low high = absurd (omega arith)
+value_one l (suc zero) price amount low high = grind (arith, nat_tests)
+value_one l (suc (suc zero)) price amount low high = grind (arith, nat_tests)
+value_one l (suc (suc (suc zero))) price amount low high = grind (arith, nat_tests)
+value_one l (suc (suc (suc (suc zero)))) price amount low high = grind (arith, nat_tests)
+value_one l (suc (suc (suc (suc (suc zero))))) price amount low high = grind (arith, nat_tests)
+value_one l (suc (suc (suc (suc (suc (suc n)))))) price amount low high = absurd (omega arith)
 
 -- two amounts of each market are worth what each is
-worth_plus : (l : Multipliers) (f g h : ℕ → ℕ) → ((m : ℕ) → h m ≡ f m + g m) → value_at l h ≡ value_at l f + value_at l g
-worth_plus l f g h both = rw (both 1, both 2, both 3, both 4, both 5) (omega arith)
+value_plus : (l : Multipliers) (f g h : ℕ → ℕ) → ((m : ℕ) → h m ≡ f m + g m) → value_at l h ≡ value_at l f + value_at l g
+value_plus l f g h both = rw (both 1, both 2, both 3, both 4, both 5) (omega arith)
 
 -- what more of a band's units are sold brings no more than their worth and what is paid above that, also where more are counted yet
 paid-more : (t a c price unit above : ℕ) → price ≤ unit + above → (t + a) * price + t * unit ≤ t * price + (a + c) * above + (t + a) * unit
@@ -74,17 +74,17 @@ module _ (l : Multipliers) (one other most : List ℕ) where
       )
 
 -- what is sold of amounts, band by band, is worth what it is market by market
-worth_sold : (l : Multipliers) (sale : OpenBand → ℕ) (bs : List OpenBand) → Every OpenRanges bs
+value_sold : (l : Multipliers) (sale : OpenBand → ℕ) (bs : List OpenBand) → Every OpenRanges bs
     → value_at l (λ m. total (λ b. cond (at_least m 0 b) (sale b) 0) bs) ≡ total (λ b. sale b * unit_worth l b.terms.market) bs
-worth_sold l sale [] ranges = omega arith
-worth_sold l sale (b ∷ bs) ranges =
+value_sold l sale [] ranges = omega arith
+value_sold l sale (b ∷ bs) ranges =
     let r = ranges.0.of_record in
-    worth_plus l (λ m. cond (at_least m 0 b) (sale b) 0) (λ m. total (λ b. cond (at_least m 0 b) (sale b) 0) bs) _ (λ m. refl)
-    ∙ ap₂ (λ n k. n + k) (worth_one l b.terms.market b.terms.price (sale b) r.market_least r.market) (worth_sold l sale bs ranges.1)
+    value_plus l (λ m. cond (at_least m 0 b) (sale b) 0) (λ m. total (λ b. cond (at_least m 0 b) (sale b) 0) bs) _ (λ m. refl)
+    ∙ ap₂ (λ n k. n + k) (value_one l b.terms.market b.terms.price (sale b) r.market_least r.market) (value_sold l sale bs ranges.1)
 
 -- amounts that are together no more than others of each market are worth no more
-worth_less : (l : Multipliers) (f g h k : ℕ → ℕ) → ((m : ℕ) → f m + g m ≤ h m + k m) → value_at l f + value_at l g ≤ value_at l h + value_at l k
-worth_less l f g h k less =
+value_less : (l : Multipliers) (f g h k : ℕ → ℕ) → ((m : ℕ) → f m + g m ≤ h m + k m) → value_at l f + value_at l g ≤ value_at l h + value_at l k
+value_less l f g h k less =
     let at = λ (m : ℕ). mul-le-mul_left (unit_worth l m) (less m) in
     omega (arith, at 1, at 2, at 3, at 4, at 5)
 
@@ -111,8 +111,8 @@ module _ (l : Multipliers) (bs : List OpenBand) (rise : rising bs ≡ true) (ahe
   income-above =
       let parts : Every (Rises (row t 1 5) (row s 1 5) (row u 1 5)) bs =
       All-weaker _ _ (λ b r. record { ranges = r; more = filled_more b r t s more; most = filled_more b r s u most }) bs ranges in
-      let sold = λ (amount : ℕ → ℕ). worth_sold l (filled (row amount 1 5)) bs ranges in
-      omega (arith, bands-above l (row t 1 5) (row s 1 5) (row u 1 5) bs parts, sold s, sold t, worth_less l (sold_of s) t (sold_of t) s sold-beyond)
+      let sold = λ (amount : ℕ → ℕ). value_sold l (filled (row amount 1 5)) bs ranges in
+      omega (arith, bands-above l (row t 1 5) (row s 1 5) (row u 1 5) bs parts, sold s, sold t, value_less l (sold_of s) t (sold_of t) s sold-beyond)
 
 -- the prices of two lists together are those of both
 cost-append : (xs ys : List PricedPackage) → cost (xs ++ ys) ≡ cost xs +ℤ cost ys
@@ -125,7 +125,7 @@ module _ (l : Multipliers) (test : PricedPackage → Bool) where
       → pos (value_at l (λ m. supply m xs)) ≤ℤ (cost xs +ℤ gains_above l ys)
       → pos (value_at l (λ m. supply m (cond one (p ∷ xs) xs))) ≤ℤ (cost (cond one (p ∷ xs) xs) +ℤ gains_above l (cond keep (p ∷ ys) ys))
   gain-next true true p xs ys so rest =
-      omega (arith, ints, clamps, rest, worth_plus l (λ m. supplied m p.terms) (λ m. supply m xs) (λ m. supply m (p ∷ xs)) (λ m. refl))
+      omega (arith, ints, clamps, rest, value_plus l (λ m. supplied m p.terms) (λ m. supply m xs) (λ m. supply m (p ∷ xs)) (λ m. refl))
   gain-next true false p xs ys so rest = absurd (true≢false (sym (so refl)))
   gain-next false true p xs ys so rest = omega (arith, ints, clamps, rest)
   gain-next false false p xs ys so rest = rest
@@ -151,7 +151,7 @@ module _ (l : Multipliers) (v : View) (ranged : Ranged v) (b : Span) (block : In
       income-above l v.bands ranged.order.numbers ranged.order.ahead (ranges_of v.bands ranged.bands)
       (λ m. supply m (fixed v b)) (λ m. supply m (taken v.packages choice)) (λ m. supply m (fixed v b) + supply m (live_ones v b))
       (λ m. omega (arith, supplies m)) (λ m. omega (arith, supplies m, part.less (λ p. supplied m p.terms))) in
-      let worths = worth_plus l (λ m. supply m free) (λ m. supply m (fixed v b)) (λ m. supply m (taken v.packages choice)) supplies in
+      let worths = value_plus l (λ m. supply m free) (λ m. supply m (fixed v b)) (λ m. supply m (taken v.packages choice)) supplies in
       let costs = ap cost splits ∙ cost-append free (fixed v b) in
       let gains = gains-most l (joins v (fixed v b) (possible v b)) (free_ones v b) (choice - b.first) live in
       omega (arith, ints, filled-most v ranged choice sales lawful, income, worths, costs, gains)

@@ -7,7 +7,7 @@ use Rattle.clearing.specs.declared.dockets.OpenBand.{OpenBand}
 use Rattle.clearing.specs.Choices.{taken, supply}
 use Rattle.clearing.specs.Lawful.{view}
 use Rattle.clearing.specs.Tallies.{row}
-use Rattle.clearing.proofs.Filling.{ranged as ranges_of}
+use Rattle.clearing.proofs.Filling.{ranges_of}
 use Rattle.clearing.proofs.Fits.{OpenRanges, each-most}
 use Rattle.clearing.proofs.Rows.{row-each, where_most}
 use Rattle.bounds.specs.declared.multipliers.Between.{Between}
