@@ -287,7 +287,7 @@ fn check_open(rt: &impl Abort, round: &Round, number: u8) -> Result<(), Fail> {
     let Round::Awarded(awarded) = round else {
         return Err(Fail::new("not awarded"));
     };
-    let open = awarded.docket().packages.list.as_slice();
+    let open = awarded.docket().packages.as_slice();
     assert_eq!(rt; open.len(), 1);
     assert_eq!(rt; open[0].number, number);
     Ok(())

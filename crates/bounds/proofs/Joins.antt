@@ -1,5 +1,5 @@
 -- Why the passes find the packages that could be taken with others: those others keep the rules, so only what concerns the package can break one.
-use Rattle.std.proofs.Common.{◌≡◌, ℕ, le_trans, ◌+◌, ◌-◌, ◌≤◌, max, min, Bool, true, false, not, ◌&&◌, ◌||◌, eqb, leb, ◌⊎◌, List, [], ◌∷◌, get_or, vec_items, Decides, refl, sym, ap, ◌∙◌, ap₂, subst, inl, inr, ⊎_elim, zero-add, arith, cond}
+use Rattle.std.proofs.Common.{◌≡◌, ℕ, le_trans, ◌+◌, ◌-◌, ◌≤◌, max, min, Bool, true, false, not, ◌&&◌, ◌||◌, eqb, leb, ◌⊎◌, List, [], ◌∷◌, get_or, Decides, refl, sym, ap, ◌∙◌, ap₂, subst, inl, inr, ⊎_elim, zero-add, arith, cond}
 use Rattle.std.specs.List.{AllByRecursion as Every, filter, list_all}
 use Rattle.std.proofs.ByRecursion.{All-weaker, All-get_or, All-from_get_or, Decides-by_and}
 use Rattle.std.proofs.lemmas.Bool.{and_from, and_parts, both_ways, cases_Bool, cases_lt, cond-true, cond-false, cond_both, eq-eqb, or_cases, or_left, or_right, eqb-true, leb-true, le-leb}
@@ -254,35 +254,35 @@ module _ (d : Docket) (T W : List PricedPackage) where
   -- do the others keep the rules?
   abbrev pub keep : Bool
   keep =
-      pairs_kept (vec_items d.pairs.list) T W
-      && (exclusions_kept (vec_items d.exclusions.list) T && zones_kept (vec_items d.limits.list) T)
+      pairs_kept d.pairs T W
+      && (exclusions_kept d.exclusions T && zones_kept d.limits T)
 
   -- what the passes say of a package
   abbrev pub passed : Tally → Tally → PricedPackage → Bool
   passed t w p =
-      get_or (row (cleared (λ (q : Pair). q.dependent) (needs w.takes) (vec_items d.pairs.list)) 0 41) p.number false
-      && (get_or (row (cleared (λ (e : Exclusion). e.member) (unopposed (row (head t.takes (vec_items d.exclusions.list)) 1 16)) (vec_items d.exclusions.list)) 0 41) p.number false
-      && room (row (tightest 1 (vec_items d.limits.list)) 1 16) (row (tightest 2 (vec_items d.limits.list)) 1 16) t p.terms)
+      get_or (row (cleared (λ (q : Pair). q.dependent) (needs w.takes) d.pairs) 0 41) p.number false
+      && (get_or (row (cleared (λ (e : Exclusion). e.member) (unopposed (row (head t.takes d.exclusions) 1 16)) d.exclusions) 0 41) p.number false
+      && room (row (tightest 1 d.limits) 1 16) (row (tightest 2 d.limits) 1 16) t p.terms)
 
   -- where the others keep the rules, that is whether it could be taken with them
   pub joins-passed : (t w : Tally) → t ≡ tally_of T → w ≡ tally_of W → Bounded 400000000 t → keep ≡ true → (p : PricedPackage) → package_fits p ≡ true
       → passed t w p ≡ joins (view d) T W p
   joins-passed t w counted others bounded kept p fits =
       let r = priced_ranges p fits in
-      let one = and_parts (pairs_kept (vec_items d.pairs.list) T W) _ kept in
-      let two = and_parts (exclusions_kept (vec_items d.exclusions.list) T) (zones_kept (vec_items d.limits.list) T) one.1 in
+      let one = and_parts (pairs_kept d.pairs T W) _ kept in
+      let two = and_parts (exclusions_kept d.exclusions T) (zones_kept d.limits T) one.1 in
       ap₂ (λ a b. a && b)
-      (test-at (cleared (λ (q : Pair). q.dependent) (needs w.takes) (vec_items d.pairs.list)) p.number r.number ∙ pairs-joined T p W w others (vec_items d.pairs.list) d.pairs_fit one.0)
+      (test-at (cleared (λ (q : Pair). q.dependent) (needs w.takes) d.pairs) p.number r.number ∙ pairs-joined T p W w others d.pairs d.pairs_fit one.0)
       (ap₂ (λ a b. a && b)
-      (test-at (cleared (λ (e : Exclusion). e.member) (unopposed (row (head t.takes (vec_items d.exclusions.list)) 1 16)) (vec_items d.exclusions.list)) p.number r.number ∙ groups-joined T t counted (vec_items d.exclusions.list) d.exclusions_fit two.0 p)
-      (zones-joined T t counted bounded (vec_items d.limits.list) two.1 p r.of_record))
+      (test-at (cleared (λ (e : Exclusion). e.member) (unopposed (row (head t.takes d.exclusions) 1 16)) d.exclusions) p.number r.number ∙ groups-joined T t counted d.exclusions d.exclusions_fit two.0 p)
+      (zones-joined T t counted bounded d.limits two.1 p r.of_record))
 
   -- where a package could be taken with them, they do
   joins-keep : (p : PricedPackage) → joins (view d) T W p ≡ true → keep ≡ true
   joins-keep p joined =
-      let pairs = vec_items d.pairs.list in
-      let xs = vec_items d.exclusions.list in
-      let ls = vec_items d.limits.list in
+      let pairs = d.pairs in
+      let xs = d.exclusions in
+      let ls = d.limits in
       let one = and_parts (pairs_kept pairs (p ∷ T) W) _ joined in
       let two = and_parts (exclusions_kept xs (p ∷ T)) (zones_kept ls (p ∷ T)) one.1 in
       and_from _ _

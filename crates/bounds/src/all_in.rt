@@ -34,7 +34,7 @@ fn least_cost(docket: &Docket, block: Block) -> i64
     for package in docket.taken(block.first) {
         cost += package.price;
     }
-    for free in docket.packages.list.iter().take(block.free as usize) {
+    for free in docket.packages.as_slice().iter().take(block.free as usize) {
         cost += free.price.min(0);
     }
     cost

@@ -30,7 +30,7 @@ pub(crate) fn live_choice(docket: &Docket, block: Block) -> u64
     let interconnection = tightest(docket, Sort::Interconnection);
     let export = tightest(docket, Sort::Export);
     let mut live = 0u64;
-    for (place, package) in docket.packages.list.iter().enumerate() {
+    for (place, package) in docket.packages.as_slice().iter().enumerate() {
         let number = package.number as usize;
         if place < block.free as usize
             && met[number]
@@ -45,10 +45,10 @@ pub(crate) fn live_choice(docket: &Docket, block: Block) -> u64
 
 // By offer number: is each package possible that one of this number needs?
 fn met(docket: &Docket, possible: &Tally) -> [bool; 41]
-    ensures { result ≡ row (cleared (λ p. p.dependent) (needs possible.now.takes) docket.now.pairs.list.items) 0 41 }
+    ensures { result ≡ row (cleared (λ p. p.dependent) (needs possible.now.takes) docket.now.pairs) 0 41 }
 {
     let mut met = [true; 41];
-    for pair in docket.pairs.list.iter() {
+    for pair in docket.pairs.as_slice().iter() {
         if !possible.takes[pair.needed as usize] {
             met[pair.dependent as usize] = false;
         }
@@ -58,10 +58,10 @@ fn met(docket: &Docket, possible: &Tally) -> [bool; 41]
 
 // Of each group the greatest member that is taken, 0 where none is; where the taken ones keep the rule of groups it is the only one.
 fn heads(docket: &Docket, tally: &Tally) -> [u8; 16]
-    ensures { result ≡ row (head tally.now.takes docket.now.exclusions.list.items) 1 16 }
+    ensures { result ≡ row (head tally.now.takes docket.now.exclusions) 1 16 }
 {
     let mut heads = [0u8; 16];
-    for exclusion in docket.exclusions.list.iter() {
+    for exclusion in docket.exclusions.as_slice().iter() {
         let group = exclusion.group as usize - 1;
         if tally.takes[exclusion.member as usize] {
             heads[group] = heads[group].max(exclusion.member);
@@ -72,10 +72,10 @@ fn heads(docket: &Docket, tally: &Tally) -> [u8; 16]
 
 // By offer number: does no other member stand for a group of a package of this number?
 fn apart(docket: &Docket, heads: &[u8; 16]) -> [bool; 41]
-    ensures { result ≡ row (cleared (λ e. e.member) (unopposed heads.now) docket.now.exclusions.list.items) 0 41 }
+    ensures { result ≡ row (cleared (λ e. e.member) (unopposed heads.now) docket.now.exclusions) 0 41 }
 {
     let mut apart = [true; 41];
-    for exclusion in docket.exclusions.list.iter() {
+    for exclusion in docket.exclusions.as_slice().iter() {
         let head = heads[exclusion.group as usize - 1];
         if head != 0 && head != exclusion.member {
             apart[exclusion.member as usize] = false;
@@ -86,10 +86,10 @@ fn apart(docket: &Docket, heads: &[u8; 16]) -> [bool; 41]
 
 // Of each zone the least amount of its limits of a sort.
 fn tightest(docket: &Docket, sort: Sort) -> [u64; 16]
-    ensures { result ≡ row (tightest (sort_byte sort) docket.now.limits.list.items) 1 16 }
+    ensures { result ≡ row (tightest (sort_byte sort) docket.now.limits) 1 16 }
 {
     let mut least = [UNLIMITED; 16];
-    for limit in docket.limits.list.iter() {
+    for limit in docket.limits.as_slice().iter() {
         if limit.is_on(sort) {
             let zone = limit.zone as usize - 1;
             least[zone] = least[zone].min(limit.amount as u64);

@@ -123,10 +123,10 @@ pub(crate) fn together(one: &[u64; 5], other: &[u64; 5]) -> [u64; 5]
 // Of each market what its first band pays, by falling price, that an amount does not fill; 0 where it fills all. The bands stand by
 // number, so each is looked at: of those that the amount does not fill, the first pays most.
 fn prices_at(docket: &Docket, amounts: &[u64; 5]) -> [u32; 5]
-    ensures { result ≡ row (λ m. price_at docket.now.bands.list.items m (slice_index amounts.now (m - 1))) 1 5 }
+    ensures { result ≡ row (λ m. price_at docket.now.bands m (slice_index amounts.now (m - 1))) 1 5 }
 {
     let mut prices = [0u32; 5];
-    for band in docket.bands.list.iter() {
+    for band in docket.bands.as_slice().iter() {
         let market = band.terms.market as usize - 1;
         let total = band.ahead + band.terms.quantity as u64;
         if amounts[market] < total {
@@ -138,7 +138,7 @@ fn prices_at(docket: &Docket, amounts: &[u64; 5]) -> [u32; 5]
 
 // Of each market, is more supplied than its bands ask for that pay above its multiplier?
 fn oversupplied(docket: &Docket, multipliers: &[u32; 5], supply: &[u64; 5]) -> [bool; 5]
-    ensures { result ≡ over_asked docket.now.bands.list.items multipliers.now supply.now }
+    ensures { result ≡ over_asked docket.now.bands multipliers.now supply.now }
 {
     let asked = asked_above(docket, multipliers);
     [
@@ -152,10 +152,10 @@ fn oversupplied(docket: &Docket, multipliers: &[u32; 5], supply: &[u64; 5]) -> [
 
 // Of each market what its bands ask for that pay above its multiplier.
 fn asked_above(docket: &Docket, multipliers: &[u32; 5]) -> [u64; 5]
-    ensures { result ≡ row (asked_above docket.now.bands.list.items multipliers.now) 1 5 }
+    ensures { result ≡ row (asked_above docket.now.bands multipliers.now) 1 5 }
 {
     let mut asked = [0u64; 5];
-    for band in docket.bands.list.iter() {
+    for band in docket.bands.as_slice().iter() {
         let market = band.terms.market as usize - 1;
         if multipliers[market] < band.terms.price {
             asked[market] += band.terms.quantity as u64;
@@ -166,11 +166,11 @@ fn asked_above(docket: &Docket, multipliers: &[u32; 5]) -> [u64; 5]
 
 // The choice that takes, of what another takes, the packages that are worth more than their price.
 fn gainful_choice(docket: &Docket, multipliers: &[u32; 5], choice: u64) -> u64
-    ensures { taken docket.now.packages.list.items result ≡ gainful multipliers.now (taken docket.now.packages.list.items choice) }
+    ensures { taken docket.now.packages result ≡ gainful multipliers.now (taken docket.now.packages choice) }
 {
     let mut gainful = 0u64;
     let mut digits = choice;
-    for (place, package) in docket.packages.list.iter().enumerate() {
+    for (place, package) in docket.packages.as_slice().iter().enumerate() {
         if digits % 2 == 1 && gain(multipliers, package) > 0 {
             gainful += 1u64 << place;
         }

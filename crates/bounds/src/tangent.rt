@@ -40,7 +40,7 @@ pub(crate) fn cap(
     multipliers: &[u32; 5],
 ) -> i64
     requires { first.now ≡ tally_of (fixed (view docket.now) block) }
-    ensures { result ≡ tangent_by multipliers.now (taken docket.now.packages.list.items live) (view docket.now) block }
+    ensures { result ≡ tangent_by multipliers.now (taken docket.now.packages live) (view docket.now) block }
 {
     let sales = sell(docket, &first.supply);
     let surplus = sales.income as i64 - first.cost;
@@ -52,11 +52,11 @@ pub(crate) fn cap(
 
 // What a supply sells beyond a smaller one, in pesos that the bands pay above what a unit of their market is worth.
 fn sold_above(docket: &Docket, multipliers: &[u32; 5], less: &[u64; 5], more: &[u64; 5]) -> u64
-    ensures value { result ≡ sold_above multipliers.now docket.now.bands.list.items less.now more.now }
+    ensures value { result ≡ sold_above multipliers.now docket.now.bands less.now more.now }
     ensures bound { result ≤ 64000000000000000 }
 {
     let mut above = 0u64;
-    for (place, band) in docket.bands.list.iter().enumerate() {
+    for (place, band) in docket.bands.as_slice().iter().enumerate() {
         let sold = sale_at(docket, more, place).saturating_sub(sale_at(docket, less, place));
         let worth = multipliers[band.terms.market as usize - 1];
         above += sold * band.terms.price.saturating_sub(worth) as u64;
@@ -66,7 +66,7 @@ fn sold_above(docket: &Docket, multipliers: &[u32; 5], less: &[u64; 5], more: &[
 
 // What the supplies of each package that a choice takes are worth above its price, where that is above 0, together.
 fn gains_above(docket: &Docket, multipliers: &[u32; 5], choice: u64) -> i64
-    ensures value { result ≡ gains_above multipliers.now (taken docket.now.packages.list.items choice) }
+    ensures value { result ≡ gains_above multipliers.now (taken docket.now.packages choice) }
     ensures low { pos 0 ≤ℤ result }
     ensures high { result ≤ℤ pos 4000000000000000000 }
 {

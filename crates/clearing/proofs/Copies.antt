@@ -1,6 +1,6 @@
 -- How a list fills with the open records of a register: what stands in it after so many entries.
 use Rattle.std.specs.List.{list_all}
-use Rattle.std.proofs.Common.{◌≡◌, ℕ, ◌+◌, ◌<◌, ◌≤◌, Bool, true, List, [], ◌∷◌, ◌++◌, map, length, get_or, vec_items, vec_len, Vec, sym, ap, ◌∙◌, subst, arith}
+use Rattle.std.proofs.Common.{◌≡◌, ℕ, ◌+◌, ◌<◌, ◌≤◌, Bool, true, List, [], ◌∷◌, ◌++◌, map, length, get_or, sym, ap, ◌∙◌, subst, arith}
 use Rattle.std.proofs.lemmas.List.{map_push, length_push}
 use Rattle.offers.specs.declared.registers.Entry.{Entry}
 use Rattle.offers.specs.declared.registers.Entry.TheVariants.{Vacant, Open}
@@ -9,13 +9,13 @@ use Rattle.clearing.proofs.Fits.{each_push}
 use Rattle.clearing.proofs.Openings.{opened, one_opened, none_opened}
 
 -- At most so many stand in it, each passes a test, and they are what is made of the open records.
-pub record Copied {R X Z : Type 0} (test : X → Bool) (f : Numbered R → X) (es : List (Entry R)) (i : ℕ) (v : Vec X Z) : Type 0 where
-  pub few : vec_len v ≤ i
-  pub fit : list_all test (vec_items v) ≡ true
-  pub holds : vec_items v ≡ map f (opened es i)
+pub record Copied {R X : Type 0} (test : X → Bool) (f : Numbered R → X) (es : List (Entry R)) (i : ℕ) (v : List X) : Type 0 where
+  pub few : length v ≤ i
+  pub fit : list_all test v ≡ true
+  pub holds : v ≡ map f (opened es i)
 
-module _ {R X Z : Type 0} (test : X → Bool) (f : Numbered R → X) (es : List (Entry R)) (v : Vec X Z)
-    (i : ℕ) (inside : i < length es) (ok : Copied test f es i v) (w : Vec X Z) where
+module _ {R X : Type 0} (test : X → Bool) (f : Numbered R → X) (es : List (Entry R)) (v : List X)
+    (i : ℕ) (inside : i < length es) (ok : Copied test f es i v) (w : List X) where
   -- an entry that is not open puts none in
   pub none_more : ((r : R) → get_or es i Vacant ≡ Open r → ⊥) → w ≡ v → Copied test f es (i + 1) w
   none_more shut e =
@@ -24,10 +24,10 @@ module _ {R X Z : Type 0} (test : X → Bool) (f : Numbered R → X) (es : List 
 
   -- an open entry puts one in that passes
   pub one_more : (r : R) (x : X) → get_or es i Vacant ≡ Open r → x ≡ f (record { number = i + 1; terms = r }) → test x ≡ true
-      → vec_items w ≡ vec_items v ++ x ∷ [] → Copied test f es (i + 1) w
+      → w ≡ v ++ x ∷ [] → Copied test f es (i + 1) w
   one_more r x is made pass items = record {
-    few = omega (arith, v.ok.0, w.ok.0, ap length items, length_push (vec_items v) x, ok.few);
-    fit = rw items (each_push test (vec_items v) x ok.fit pass);
+    few = omega (arith, ap length items, length_push v x, ok.few);
+    fit = rw items (each_push test v x ok.fit pass);
     holds =
         items
         ∙ ap (λ xs. xs ++ x ∷ []) ok.holds

@@ -1,5 +1,5 @@
 -- The member of each group that is taken, as the exclusions are read one after another.
-use Rattle.std.proofs.Common.{◌≡◌, ℕ, ◌+◌, ◌-◌, ◌<◌, ◌≤◌, Bool, false, ◌≢◌, List, Option, Some, None, length, get_or, set, vec_items, sym, ap, ◌∙◌, subst, ⊎_elim, arith, length-set, get_or-set_other, get_or-set_same, below_more}
+use Rattle.std.proofs.Common.{◌≡◌, ℕ, ◌+◌, ◌-◌, ◌<◌, ◌≤◌, Bool, false, ◌≢◌, List, Option, Some, None, length, get_or, set, sym, ap, ◌∙◌, subst, ⊎_elim, arith, length-set, get_or-set_other, get_or-set_same, below_more}
 use Rattle.std.proofs.ByRecursion.{All-get_or, All-from_get_or}
 use Rattle.std.proofs.lemmas.Bool.{cases_eq, both_ways}
 use Rattle.offers.specs.declared.records.Exclusion.{Exclusion}
@@ -31,7 +31,7 @@ pub record Firsts (xs : List Exclusion) (taken : List Bool) (i : ℕ) (first : L
 pub one_member : (a b : ℕ) → Some a ≡ Some b → a ≡ b
 one_member a b e = cc
 
-module _ (d : Docket) (xs : List Exclusion) (held : xs ≡ vec_items d.exclusions.list) (taken : List Bool) where
+module _ (d : Docket) (xs : List Exclusion) (held : xs ≡ d.exclusions) (taken : List Bool) where
   -- the exclusion at a place is in range
   ranged : (k : ℕ) → k < length xs → ExclusionRanges (get_or xs k no_exclusion)
   ranged k h = exclusion_held d k xs held h

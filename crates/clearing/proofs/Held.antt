@@ -1,5 +1,5 @@
 -- What a docket holds is in range, read at a place.
-use Rattle.std.proofs.Common.{◌≡◌, ℕ, ◌<◌, true, List, length, get_or, pos, vec_items}
+use Rattle.std.proofs.Common.{◌≡◌, ℕ, ◌<◌, true, List, length, get_or, pos}
 use Rattle.offers.specs.declared.records.Exclusion.{Exclusion}
 use Rattle.offers.specs.declared.records.Limit.{Limit}
 use Rattle.offers.specs.Tables.{exclusion_layout, limit_layout}
@@ -41,22 +41,22 @@ no_limit = record { sort = 0; zone = 0; amount = 0 }
 
 module _ (d : Docket) (i : ℕ) where
   -- a band that a docket holds is in range
-  pub band_held : (bs : List OpenBand) → bs ≡ vec_items d.bands.list → i < length bs → band_fits (get_or bs i no_band) ≡ true
+  pub band_held : (bs : List OpenBand) → bs ≡ d.bands → i < length bs → band_fits (get_or bs i no_band) ≡ true
   band_held bs e h = each_getD band_fits bs i no_band h (rw e d.bands_fit)
 
   -- with its fields
-  pub band_ranged : (bs : List OpenBand) → bs ≡ vec_items d.bands.list → i < length bs → OpenRanges (get_or bs i no_band)
+  pub band_ranged : (bs : List OpenBand) → bs ≡ d.bands → i < length bs → OpenRanges (get_or bs i no_band)
   band_ranged bs e h = open_ranges (get_or bs i no_band) (band_held bs e h)
 
   -- an exclusion that it holds, with its fields
-  pub exclusion_held : (xs : List Exclusion) → xs ≡ vec_items d.exclusions.list → i < length xs → ExclusionRanges (get_or xs i no_exclusion)
+  pub exclusion_held : (xs : List Exclusion) → xs ≡ d.exclusions → i < length xs → ExclusionRanges (get_or xs i no_exclusion)
   exclusion_held xs e h =
       exclusion_ranges (get_or xs i no_exclusion) (each_getD (fits exclusion_layout) xs i no_exclusion h (rw e d.exclusions_fit))
 
   -- a limit that it holds
-  pub limit_held : (ls : List Limit) → ls ≡ vec_items d.limits.list → i < length ls → fits limit_layout (get_or ls i no_limit) ≡ true
+  pub limit_held : (ls : List Limit) → ls ≡ d.limits → i < length ls → fits limit_layout (get_or ls i no_limit) ≡ true
   limit_held ls e h = each_getD (fits limit_layout) ls i no_limit h (rw e d.limits_fit)
 
   -- with its fields
-  pub limit_ranged : (ls : List Limit) → ls ≡ vec_items d.limits.list → i < length ls → LimitRanges (get_or ls i no_limit)
+  pub limit_ranged : (ls : List Limit) → ls ≡ d.limits → i < length ls → LimitRanges (get_or ls i no_limit)
   limit_ranged ls e h = limit_ranges (get_or ls i no_limit) (limit_held ls e h)

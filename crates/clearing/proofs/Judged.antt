@@ -1,5 +1,5 @@
 -- What the tests of a choice decide: the rules of a lawful choice, over its packages and over a tally's rows.
-use Rattle.std.proofs.Common.{◌≡◌, ℕ, ◌*◌, ◌≤◌, Bool, true, false, List, [], ◌∷◌, ℤ, Some, None, vec_items, Decides, Option, sym, refl, ap, ◌∙◌, ⊎_elim, arith}
+use Rattle.std.proofs.Common.{◌≡◌, ℕ, ◌*◌, ◌≤◌, Bool, true, false, List, [], ◌∷◌, ℤ, Some, None, Decides, Option, sym, refl, ap, ◌∙◌, ⊎_elim, arith}
 use Rattle.std.specs.List.{AllByRecursion as Every, list_all}
 use Rattle.std.proofs.lemmas.Bool.{cases_Bool, both_ways}
 use Rattle.std.proofs.lemmas.Bool.Decides.{same_from_decides, Decides-like, Decides-eqb, Decides-and}
@@ -86,10 +86,10 @@ dates_tell v T sales =
 
 -- tested over the sums of packages, and over what another choice sells, they are those of the packages
 pub dates-tested : (d : Docket) (T : List PricedPackage) (t : Tally) → t ≡ tally_of T → (choice : ℕ) (u : Tally) (s : Sales)
-    → u ≡ tally_of (taken (vec_items d.packages.list) choice) → s ≡ sales_of (vec_items d.bands.list) u.supply
-    → (r : Bool) → Decides r (DatesKept (vec_items d.limits.list) t s.sold) → r ≡ dates_kept (view d) T (filled_sales (view d) choice)
+    → u ≡ tally_of (taken d.packages choice) → s ≡ sales_of d.bands u.supply
+    → (r : Bool) → Decides r (DatesKept d.limits t s.sold) → r ≡ dates_kept (view d) T (filled_sales (view d) choice)
 dates-tested d T t counted choice u s others filled-so r decides =
-    let percent = percentage (vec_items d.limits.list) in
+    let percent = percentage d.limits in
     let sales = filled_sales (view d) choice in
     let before = λ (zone m : ℕ) (low : 1 ≤ m) (high : m ≤ 5). share-same d choice u s others filled-so t.before (λ m. dated 1 m T) (percent zone) m (ap (λ t. t.before) counted) low high in
     let after = λ (zone m : ℕ) (low : 1 ≤ m) (high : m ≤ 5). share-same d choice u s others filled-so t.after (λ m. dated 2 m T) (percent zone) m (ap (λ t. t.after) counted) low high in

@@ -22,8 +22,8 @@ pub record Ranged (v : View) : Type 0 where
 -- so does a docket
 pub ranged_docket : (d : Docket) → Ranged (view d)
 ranged_docket d = record {
-  few_packages = omega (arith, d.packages.list.ok.0, d.packages.few);
-  few_bands = omega (arith, d.bands.list.ok.0, d.bands.few);
+  few_packages = d.few_packages;
+  few_bands = d.few_bands;
   packages = d.packages_fit;
   bands = d.bands_fit;
   order = record { numbers = d.bands_rise; ahead = d.bands_ahead };

@@ -1,5 +1,5 @@
 -- The rules over a tally's rows and the sales say the same as those over what a choice takes and the filled sales.
-use Rattle.std.proofs.Common.{◌≡◌, ℕ, ◌+◌, ◌-◌, ◌*◌, ◌≤◌, eqb, List, [], ◌∷◌, map, get_or, pos, ◌-ℤ◌, vec_items, refl, ap, ◌∙◌, arith, w64, to_z, of_z, cond}
+use Rattle.std.proofs.Common.{◌≡◌, ℕ, ◌+◌, ◌-◌, ◌*◌, ◌≤◌, eqb, List, [], ◌∷◌, map, get_or, pos, ◌-ℤ◌, refl, ap, ◌∙◌, arith, w64, to_z, of_z, cond}
 use Rattle.std.proofs.lemmas.Int.{ints}
 use Rattle.clearing.specs.declared.dockets.PricedPackage.{PricedPackage}
 use Rattle.clearing.specs.declared.dockets.OpenBand.{OpenBand}
@@ -33,31 +33,31 @@ pub record Ruled (v : View) (t : Tally) (s : Sales) : Type 0 where
 module _ (d : Docket) (choice : ℕ) where
   -- what the choice takes
   abbrev chosen : List PricedPackage
-  chosen = taken (vec_items d.packages.list) choice
+  chosen = taken d.packages choice
 
   -- the sales that fill the bands
   abbrev sales : List ℕ
   sales = filled_sales (view d) choice
 
-  module _ (t : Tally) (s : Sales) (counted : t ≡ tally_of chosen) (filled-so : s ≡ sales_of (vec_items d.bands.list) t.supply) where
+  module _ (t : Tally) (s : Sales) (counted : t ≡ tally_of chosen) (filled-so : s ≡ sales_of d.bands t.supply) where
     -- what is sold in a market stands at its place
-    sold-is : (m : ℕ) → 1 ≤ m → m ≤ 5 → get_or s.sold (m - 1) 0 ≡ sold (vec_items d.bands.list) sales m
+    sold-is : (m : ℕ) → 1 ≤ m → m ≤ 5 → get_or s.sold (m - 1) 0 ≡ sold d.bands sales m
     sold-is m low high =
         ap (λ s. get_or s.sold (m - 1) 0) filled-so
-        ∙ row_at (sold_in (vec_items d.bands.list) t.supply) 5 m low high
-        ∙ sold-filled t.supply (vec_items d.bands.list) m
-        ∙ ap (λ t. sold (vec_items d.bands.list) (map (filled t.supply) (vec_items d.bands.list)) m) counted
+        ∙ row_at (sold_in d.bands t.supply) 5 m low high
+        ∙ sold-filled t.supply d.bands m
+        ∙ ap (λ t. sold d.bands (map (filled t.supply) d.bands) m) counted
 
     -- and what they bring is the income of all markets
-    pub income-is : s.income ≡ income (vec_items d.bands.list) sales
+    pub income-is : s.income ≡ income d.bands sales
     income-is =
         ap (λ s. s.income) filled-so
-        ∙ income-filled t.supply (vec_items d.bands.list)
-        ∙ ap (λ t. income (vec_items d.bands.list) (map (filled t.supply) (vec_items d.bands.list))) counted
+        ∙ income-filled t.supply d.bands
+        ∙ ap (λ t. income d.bands (map (filled t.supply) d.bands)) counted
 
     -- a share of what is sold in a market says the same over both, where a row has the dated supply at its place
     pub share-same : (xs : List ℕ) (f : ℕ → ℕ) (percent m : ℕ) → xs ≡ row f 1 5 → 1 ≤ m → m ≤ 5
-        → Same (Share percent xs s.sold m) (100 * f m ≤ percent * sold (vec_items d.bands.list) sales m)
+        → Same (Share percent xs s.sold m) (100 * f m ≤ percent * sold d.bands sales m)
     share-same xs f percent m is low high =
         let amount = ap (λ ys. get_or ys (m - 1) 0) is ∙ row_at f 5 m low high in
         let all = ap (λ n. percent * n) (sold-is m low high) in
@@ -65,24 +65,24 @@ module _ (d : Docket) (choice : ℕ) where
 
     -- so does the share of what is dated before
     before_same : (percent m : ℕ) → 1 ≤ m → m ≤ 5
-        → Same (Share percent t.before s.sold m) (100 * dated 1 m chosen ≤ percent * sold (vec_items d.bands.list) sales m)
+        → Same (Share percent t.before s.sold m) (100 * dated 1 m chosen ≤ percent * sold d.bands sales m)
     before_same percent m low high = share-same t.before (λ m. dated 1 m chosen) percent m (ap (λ t. t.before) counted) low high
 
     -- and of what is dated after
     after_same : (percent m : ℕ) → 1 ≤ m → m ≤ 5
-        → Same (Share percent t.after s.sold m) (100 * dated 2 m chosen ≤ percent * sold (vec_items d.bands.list) sales m)
+        → Same (Share percent t.after s.sold m) (100 * dated 2 m chosen ≤ percent * sold d.bands sales m)
     after_same percent m low high = share-same t.after (λ m. dated 2 m chosen) percent m (ap (λ t. t.after) counted) low high
 
     -- a choice that keeps the rules is lawful with the filled sales, if no market sells more than its supply
-    pub lawful-from : ((m : ℕ) → sold (vec_items d.bands.list) sales m ≤ supply m chosen) → Ruled (view d) t s → Lawful (view d) choice sales
+    pub lawful-from : ((m : ℕ) → sold d.bands sales m ≤ supply m chosen) → Ruled (view d) t s → Lawful (view d) choice sales
     lawful-from within rules =
-        let zones = (all_both _ _ (vec_items d.limits.list)).0 ((zones-same chosen t counted (vec_items d.limits.list) d.limits_fit).0 rules.zones) in
-        let percent = percentage (vec_items d.limits.list) in
+        let zones = (all_both _ _ d.limits).0 ((zones-same chosen t counted d.limits d.limits_fit).0 rules.zones) in
+        let percent = percentage d.limits in
         record {
-          within_quantities = filled_small (row (λ m. supply m chosen) 1 5) (vec_items d.bands.list);
+          within_quantities = filled_small (row (λ m. supply m chosen) 1 5) d.bands;
           within_supply = within;
-          pairs = (pairs-same chosen t counted chosen t counted (vec_items d.pairs.list) d.pairs_fit).0 rules.pairs;
-          exclusions = (exclusions-same chosen t counted (vec_items d.exclusions.list) d.exclusions_fit).0 rules.exclusions;
+          pairs = (pairs-same chosen t counted chosen t counted d.pairs d.pairs_fit).0 rules.pairs;
+          exclusions = (exclusions-same chosen t counted d.exclusions d.exclusions_fit).0 rules.exclusions;
           interconnection = zones.0;
           export = zones.1;
           power_before = λ m low high. (before_same (percent 1) m low (omega arith)).0 (rules.dates.power_before m low high);
@@ -94,11 +94,11 @@ module _ (d : Docket) (choice : ℕ) where
     -- and a choice that is lawful with them keeps the rules
     pub ruled_from : Lawful (view d) choice sales → Ruled (view d) t s
     ruled_from lawful =
-        let percent = percentage (vec_items d.limits.list) in
+        let percent = percentage d.limits in
         record {
-          pairs = (pairs-same chosen t counted chosen t counted (vec_items d.pairs.list) d.pairs_fit).1 lawful.pairs;
-          exclusions = (exclusions-same chosen t counted (vec_items d.exclusions.list) d.exclusions_fit).1 lawful.exclusions;
-          zones = (zones-same chosen t counted (vec_items d.limits.list) d.limits_fit).1 ((all_both _ _ (vec_items d.limits.list)).1 (lawful.interconnection, lawful.export));
+          pairs = (pairs-same chosen t counted chosen t counted d.pairs d.pairs_fit).1 lawful.pairs;
+          exclusions = (exclusions-same chosen t counted d.exclusions d.exclusions_fit).1 lawful.exclusions;
+          zones = (zones-same chosen t counted d.limits d.limits_fit).1 ((all_both _ _ d.limits).1 (lawful.interconnection, lawful.export));
           dates = record {
             power_before = λ m low high. (before_same (percent 1) m low (omega arith)).1 (lawful.power_before m low high);
             power_after = λ m low high. (after_same (percent 2) m low (omega arith)).1 (lawful.power_after m low high);

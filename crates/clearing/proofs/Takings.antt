@@ -1,6 +1,6 @@
 -- What a choice takes of the packages, one after another, and that its sums are bounded.
 use Rattle.std.specs.List.{list_all}
-use Rattle.std.proofs.Common.{◌≡◌, ℕ, suc, ◌+◌, ◌/◌, ◌%◌, ◌<◌, ◌≤◌, Bool, true, eqb, List, [], ◌∷◌, length, get_or, take, vec_items, Bor, sym, refl, ap, ◌∙◌, arith, length-take}
+use Rattle.std.proofs.Common.{◌≡◌, ℕ, suc, ◌+◌, ◌/◌, ◌%◌, ◌<◌, ◌≤◌, Bool, true, eqb, List, [], ◌∷◌, length, get_or, take, Bor, sym, refl, ap, ◌∙◌, arith, length-take}
 use Rattle.std.proofs.lemmas.List.{take_more}
 use Rattle.std.specs.Iterator.{YieldsFirstBy}
 use Rattle.std.proofs.lemmas.Iterator.{YieldsList}
@@ -33,34 +33,34 @@ taken-few (p ∷ ps) choice =
 
 module _ (d : Docket) (choice : ℕ) where
   -- what a choice takes of a docket is in range
-  taken_ok : list_all package_fits (taken (vec_items d.packages.list) choice) ≡ true
-  taken_ok = taken-fits package_fits (vec_items d.packages.list) choice d.packages_fit
+  taken_ok : list_all package_fits (taken d.packages choice) ≡ true
+  taken_ok = taken-fits package_fits d.packages choice d.packages_fit
 
   -- and no more than 40
-  taken_short : length (taken (vec_items d.packages.list) choice) ≤ 40
-  taken_short = omega (arith, taken-few (vec_items d.packages.list) choice, d.packages.list.ok.0, d.packages.few)
+  taken_short : length (taken d.packages choice) ≤ 40
+  taken_short = omega (arith, taken-few d.packages choice, d.few_packages)
 
   -- so its sums are bounded
-  pub taken-bounded : Bounded 400000000 (tally_of (taken (vec_items d.packages.list) choice))
-  taken-bounded = tally_bounded 40 (taken (vec_items d.packages.list) choice) taken_ok taken_short
+  pub taken-bounded : Bounded 400000000 (tally_of (taken d.packages choice))
+  taken-bounded = tally_bounded 40 (taken d.packages choice) taken_ok taken_short
 
   -- and so is its cost
-  pub taken-priced : Priced (tally_of (taken (vec_items d.packages.list) choice))
+  pub taken-priced : Priced (tally_of (taken d.packages choice))
   taken-priced =
-      let between = cost_between (taken (vec_items d.packages.list) choice) taken_ok in
+      let between = cost_between (taken d.packages choice) taken_ok in
       record {
         low = omega (arith, ints, between.0, taken_short);
         high = omega (arith, ints, between.1, taken_short);
       }
 
   -- a walk over what is taken gives one after another
-  pub walk : (s : Taken) → still_taken s ≡ taken (vec_items d.packages.list) choice
-      → YieldsList (YieldsFirstBy (λ (x : Bor PricedPackage). x.now) still_taken) (λ x. x.now) s (taken (vec_items d.packages.list) choice)
-  walk s starts = YieldsList-from_first (λ x. x.now) still_taken (taken (vec_items d.packages.list) choice) starts
+  pub walk : (s : Taken) → still_taken s ≡ taken d.packages choice
+      → YieldsList (YieldsFirstBy (λ (x : Bor PricedPackage). x.now) still_taken) (λ x. x.now) s (taken d.packages choice)
+  walk s starts = YieldsList-from_first (λ x. x.now) still_taken (taken d.packages choice) starts
 
   -- with one of them next, the first so many leave room for it, it is in range, and it is added to them
-  module _ (n : ℕ) (p : PricedPackage) (next : (n < length (taken (vec_items d.packages.list) choice)) × (p ≡ get_or (taken (vec_items d.packages.list) choice) n p)) where
-    pub next-room : Room (tally_of (take n (taken (vec_items d.packages.list) choice)))
+  module _ (n : ℕ) (p : PricedPackage) (next : (n < length (taken d.packages choice)) × (p ≡ get_or (taken d.packages choice) n p)) where
+    pub next-room : Room (tally_of (take n (taken d.packages choice)))
     next-room =
         room_for _ (each_take package_fits n _ taken_ok)
         (omega (arith, next.0, taken_short, length-take {A = PricedPackage}))
@@ -68,8 +68,8 @@ module _ (d : Docket) (choice : ℕ) where
     pub next-fits : package_fits p ≡ true
     next-fits = each_item package_fits _ n p next.0 next.1 taken_ok
 
-    pub next-added : added (tally_of (take n (taken (vec_items d.packages.list) choice))) p ≡ tally_of (take (n + 1) (taken (vec_items d.packages.list) choice))
+    pub next-added : added (tally_of (take n (taken d.packages choice))) p ≡ tally_of (take (n + 1) (taken d.packages choice))
     next-added =
-        ap (λ q. added (tally_of (take n (taken (vec_items d.packages.list) choice))) q) next.1
+        ap (λ q. added (tally_of (take n (taken d.packages choice))) q) next.1
         ∙ sym (tally_last _ _)
         ∙ ap tally_of (sym (take_more _ n p next.0))

@@ -1,5 +1,5 @@
 -- What a lawful choice is, what it is worth, and which is best. Nothing here searches.
-use Rattle.std.specs.Prelude.{◌≡◌, ℕ, ◌+◌, ◌*◌, ◌^◌, ◌<◌, ◌≤◌, min, true, ◌&&◌, List, [], ◌∷◌, map, length, ℤ, pos, ◌-ℤ◌, ◌≤ℤ◌, Some, None, vec_items, Option, ◌==◌, if◌then◌else◌}
+use Rattle.std.specs.Prelude.{◌≡◌, ℕ, ◌+◌, ◌*◌, ◌^◌, ◌<◌, ◌≤◌, min, true, ◌&&◌, List, [], ◌∷◌, map, length, ℤ, pos, ◌-ℤ◌, ◌≤ℤ◌, Some, None, Option, ◌==◌, if◌then◌else◌}
 use Rattle.std.specs.List.{AllByRecursion as Every}
 use Rattle.offers.specs.declared.records.Pair.{Pair}
 use Rattle.offers.specs.declared.records.Exclusion.{Exclusion}
@@ -21,11 +21,11 @@ pub record View : Type 0 where
 
 abbrev pub view : Docket → View
 view d = record {
-  packages = vec_items d.packages.list;
-  bands = vec_items d.bands.list;
-  pairs = vec_items d.pairs.list;
-  exclusions = vec_items d.exclusions.list;
-  limits = vec_items d.limits.list;
+  packages = d.packages;
+  bands = d.bands;
+  pairs = d.pairs;
+  exclusions = d.exclusions;
+  limits = d.limits;
 }
 
 -- where nothing is open

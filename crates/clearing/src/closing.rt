@@ -1,7 +1,7 @@
 //! Closing: the open records are copied into the docket, and each package is priced.
-ghost use Rattle.offers.specs.Tables.{PACKAGES};
+ghost use Rattle.offers.specs.Tables.{PACKAGES, BANDS};
 ghost use Rattle.std.specs.List.{list_all};
-ghost use Rattle.std.specs.Prelude.{◌≡◌, ℕ, ◌+◌, ◌-◌, ◌≤◌, true, ◌&&◌, ◌||◌, map, pos, IfOk, IfErr, Ok, Err, MatchResult, ◌==◌, nat_lt, slice_index_or, ◌<◌};
+ghost use Rattle.std.specs.Prelude.{◌≡◌, ℕ, ◌+◌, ◌-◌, ◌≤◌, true, ◌&&◌, ◌||◌, map, pos, IfOk, IfErr, Ok, Err, MatchResult, ◌==◌, nat_lt, slice_index_or, ◌<◌, length};
 ghost use Rattle.offers.specs.Refusals.{Carries};
 ghost use Rattle.clearing.specs.Bands.{ahead_of, ahead_by};
 ghost use Rattle.clearing.specs.Closing.{PricesOpen, packages_at, no_price, open_from, open_records, open_bands};
@@ -54,8 +54,9 @@ pub(crate) fn copy_packages(
     into: &mut BoundedVec<PricedPackage, PACKAGES>,
 )
     requires prices_fit { list_all price_fits prices.now ≡ true }
-    ensures fit { list_all package_fits into.new.list.items ≡ true }
-    ensures items { into.new.list.items ≡ packages_at prices.now ledger.now.entries }
+    ensures few { length into.new ≤ PACKAGES }
+    ensures fit { list_all package_fits into.new ≡ true }
+    ensures items { into.new ≡ packages_at prices.now ledger.now.entries }
 {
     into.clear();
     for (i, entry) in ledger.entries.iter().enumerate() {
@@ -71,8 +72,9 @@ pub(crate) fn copy_packages(
 
 /// Puts the open bands in the place of what was there, each with what stands ahead of it.
 pub(crate) fn copy_bands(ledger: &Ledger<Band, BANDS>, into: &mut BoundedVec<OpenBand, BANDS>)
-    ensures fit { list_all band_fits into.new.list.items ≡ true }
-    ensures items { into.new.list.items ≡ open_bands ledger.now.entries }
+    ensures few { length into.new ≤ BANDS }
+    ensures fit { list_all band_fits into.new ≡ true }
+    ensures items { into.new ≡ open_bands ledger.now.entries }
 {
     into.clear();
     for (i, entry) in ledger.entries.iter().enumerate() {
@@ -116,8 +118,8 @@ pub(crate) fn copy_open<R: Record, const N: usize>(
     ledger: &Ledger<R, N>,
     into: &mut BoundedVec<R, N>,
 )
-    ensures fit { list_all (fits R.Record.layout) into.new.list.items ≡ true }
-    ensures items { into.new.list.items ≡ open_records ledger.now.entries }
+    ensures fit { list_all (fits R.Record.layout) into.new ≡ true }
+    ensures items { into.new ≡ open_records ledger.now.entries }
 {
     into.clear();
     for entry in ledger.entries.iter() {

@@ -1,7 +1,7 @@
 //! The docket: the records that were open at a closing, each package with its price.
 ghost use Rattle.std.specs.List.{list_all};
-ghost use Rattle.std.specs.Prelude.{◌≡◌, true};
-ghost use Rattle.offers.specs.Tables.{pair_layout, exclusion_layout, limit_layout};
+ghost use Rattle.std.specs.Prelude.{◌≡◌, ◌≤◌, true, length};
+ghost use Rattle.offers.specs.Tables.{PACKAGES, BANDS, pair_layout, exclusion_layout, limit_layout};
 ghost use Rattle.clearing.specs.Bands.{rising, aheads, true_aheads};
 ghost use Rattle.clearing.specs.Ranges.{fits, package_fits, band_fits};
 
@@ -39,13 +39,15 @@ pub struct Docket {
     pub pairs: BoundedVec<Pair, PAIRS>,
     pub exclusions: BoundedVec<Exclusion, EXCLUSIONS>,
     pub limits: BoundedVec<Limit, LIMITS>,
-    ghost packages_fit: { list_all package_fits packages.list.items ≡ true },
-    ghost bands_rise: { rising bands.list.items ≡ true },
-    ghost bands_ahead: { aheads bands.list.items ≡ true_aheads bands.list.items },
-    ghost bands_fit: { list_all band_fits bands.list.items ≡ true },
-    ghost pairs_fit: { list_all (fits pair_layout) pairs.list.items ≡ true },
-    ghost exclusions_fit: { list_all (fits exclusion_layout) exclusions.list.items ≡ true },
-    ghost limits_fit: { list_all (fits limit_layout) limits.list.items ≡ true },
+    ghost few_packages: { length packages ≤ PACKAGES },
+    ghost few_bands: { length bands ≤ BANDS },
+    ghost packages_fit: { list_all package_fits packages ≡ true },
+    ghost bands_rise: { rising bands ≡ true },
+    ghost bands_ahead: { aheads bands ≡ true_aheads bands },
+    ghost bands_fit: { list_all band_fits bands ≡ true },
+    ghost pairs_fit: { list_all (fits pair_layout) pairs ≡ true },
+    ghost exclusions_fit: { list_all (fits exclusion_layout) exclusions ≡ true },
+    ghost limits_fit: { list_all (fits limit_layout) limits ≡ true },
 }
 
 impl Docket {
@@ -101,10 +103,10 @@ impl Docket {
 
     /// What a choice takes. Its binary digits stand for the docket's packages, the lowest for the first.
     pub fn taken(&self, choice: u64) -> Taken<'_>
-        ensures { still_taken result ≡ taken self.now.packages.list.items choice }
+        ensures { still_taken result ≡ taken self.now.packages choice }
     {
         Taken {
-            packages: &self.packages.list,
+            packages: self.packages.as_slice(),
             digits: choice,
         }
     }

@@ -15,19 +15,19 @@ use offers::{Limit, Sort};
 
 /// Whether each taken package that needs another has it among the possible ones.
 pub fn pairs_kept(docket: &Docket, tally: &Tally, possible: &Tally) -> bool
-    ensures { IsTrue result ↔ (PairsKept docket.now.pairs.list.items tally.now.takes possible.now.takes) }
+    ensures { IsTrue result ↔ (PairsKept docket.now.pairs tally.now.takes possible.now.takes) }
 {
-    docket.pairs.list.iter().all(|pair| {
+    docket.pairs.as_slice().iter().all(|pair| {
         !tally.takes[pair.dependent as usize] || possible.takes[pair.needed as usize]
     })
 }
 
 /// Whether no two different taken packages are in one group. A loop, since each turn looks at what the turns before it saw.
 pub fn exclusions_kept(docket: &Docket, tally: &Tally) -> bool
-    ensures { IsTrue result ↔ (ExclusionsKept docket.now.exclusions.list.items tally.now.takes) }
+    ensures { IsTrue result ↔ (ExclusionsKept docket.now.exclusions tally.now.takes) }
 {
     let mut first = [None; 16];
-    for exclusion in docket.exclusions.list.iter() {
+    for exclusion in docket.exclusions.as_slice().iter() {
         let group = exclusion.group as usize - 1;
         let member = exclusion.member;
         if tally.takes[member as usize] {
@@ -42,11 +42,11 @@ pub fn exclusions_kept(docket: &Docket, tally: &Tally) -> bool
 
 /// Whether the taken packages without connection priority keep the limits of their zones.
 pub fn zones_kept(docket: &Docket, tally: &Tally) -> bool
-    ensures { IsTrue result ↔ (ZonesKept docket.now.limits.list.items tally.now.nameplate tally.now.export) }
+    ensures { IsTrue result ↔ (ZonesKept docket.now.limits tally.now.nameplate tally.now.export) }
 {
     docket
         .limits
-        .list
+        .as_slice()
         .iter()
         .all(|limit| zone_load(limit, tally) <= limit.amount as u64)
 }
@@ -68,11 +68,11 @@ fn zone_load(limit: &Limit, tally: &Tally) -> u64
 // The percentages that bind, by the zone that a limit has for each: power before and after, certificates before and after; the least
 // of each, or 100.
 fn percentages(docket: &Docket) -> [u64; 4]
-    ensures value { result ≡ row (percentage docket.now.limits.list.items) 1 4 }
+    ensures value { result ≡ row (percentage docket.now.limits) 1 4 }
     ensures bound { at_most 100 result ≡ true }
 {
     let mut least = [100u64; 4];
-    for limit in docket.limits.list.iter() {
+    for limit in docket.limits.as_slice().iter() {
         if limit.is_on(Sort::Percentage) {
             let zone = limit.zone as usize - 1;
             least[zone] = least[zone].min(limit.amount as u64);
@@ -98,7 +98,7 @@ fn dates_kept(docket: &Docket, tally: &Tally, sales: &Sales) -> bool
     requires before { at_most MOST_SUPPLY tally.now.before ≡ true }
     requires after { at_most MOST_SUPPLY tally.now.after ≡ true }
     requires sold { at_most MOST_ASKED sales.now.sold ≡ true }
-    ensures { IsTrue result ↔ (DatesKept docket.now.limits.list.items tally.now sales.now.sold) }
+    ensures { IsTrue result ↔ (DatesKept docket.now.limits tally.now sales.now.sold) }
 {
     let least = percentages(docket);
     (1..ENERGY).all(|market| {

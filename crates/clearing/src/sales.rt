@@ -26,9 +26,9 @@ pub(crate) fn sale(supply: &[u64; 5], band: &OpenBand) -> u64
 
 /// What the band at a place of the docket is sold, 0 past the last.
 pub fn sale_at(docket: &Docket, supply: &[u64; 5], place: usize) -> u64
-    ensures { result ≡ slice_index (map (filled supply.now) docket.now.bands.list.items) place }
+    ensures { result ≡ slice_index (map (filled supply.now) docket.now.bands) place }
 {
-    match docket.bands.list.get(place) {
+    match docket.bands.as_slice().get(place) {
         Some(band) => sale(supply, band),
         None => 0,
     }
@@ -36,13 +36,13 @@ pub fn sale_at(docket: &Docket, supply: &[u64; 5], place: usize) -> u64
 
 /// What a supply of each market sells to the docket's bands.
 pub fn sell(docket: &Docket, supply: &[u64; 5]) -> Sales
-    ensures { result ≡ sales_of docket.now.bands.list.items supply.now }
+    ensures { result ≡ sales_of docket.now.bands supply.now }
 {
     let mut sales = Sales {
         sold: [0; 5],
         income: 0,
     };
-    for band in docket.bands.list.iter() {
+    for band in docket.bands.as_slice().iter() {
         let sold = sale(supply, band);
         sales.sold[band.terms.market as usize - 1] += sold;
         sales.income += sold * band.terms.price as u64;
@@ -52,10 +52,10 @@ pub fn sell(docket: &Docket, supply: &[u64; 5]) -> Sales
 
 /// What each band is sold by its offer number, number n at place n - 1; 0 for a number that is not open.
 pub fn sales_row(docket: &Docket, supply: &[u64; 5]) -> [u64; BANDS]
-    ensures { result ≡ row (sale_of docket.now.bands.list.items supply.now) 1 BANDS }
+    ensures { result ≡ row (sale_of docket.now.bands supply.now) 1 BANDS }
 {
     let mut row = [0u64; BANDS];
-    for band in docket.bands.list.iter() {
+    for band in docket.bands.as_slice().iter() {
         row[band.number as usize - 1] = sale(supply, band);
     }
     row

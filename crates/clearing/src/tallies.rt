@@ -32,7 +32,7 @@ pub struct Tally {
 impl Tally {
     /// What a choice takes of a docket, together.
     pub fn new(docket: &Docket, choice: u64) -> Tally
-        ensures { result ≡ tally_of (taken docket.now.packages.list.items choice) }
+        ensures { result ≡ tally_of (taken docket.now.packages choice) }
     {
         let mut sums = Tally {
             takes: [false; 41],
@@ -75,7 +75,7 @@ impl Tally {
 
 /// What a choice's packages supply to each market, in one light pass for those who need no more of the sums.
 pub fn supply_of(docket: &Docket, choice: u64) -> [u64; 5]
-    ensures { result ≡ row (λ m. supply m (taken docket.now.packages.list.items choice)) 1 5 }
+    ensures { result ≡ row (λ m. supply m (taken docket.now.packages choice)) 1 5 }
 {
     let mut sums = [0u64; 5];
     for package in docket.taken(choice) {

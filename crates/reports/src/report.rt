@@ -45,7 +45,7 @@ impl Report {
         };
         let docket = round.docket();
         Ok(Report {
-            open: docket.packages.list.len(),
+            open: docket.packages.as_slice().len(),
             choices: choices(docket),
             packages: taken_numbers(heap, docket, award.choice)?,
             bands: sold_quantities(heap, docket, &sold)?,
@@ -56,7 +56,7 @@ impl Report {
 
 // The offer numbers of the packages that a choice takes.
 fn taken_numbers(heap: Global, docket: &Docket, choice: u64) -> Result<Vec<u8>, AllocError>
-    ensures { IfOk result (λ v. v.items ≡ map (λ p. p.number) (taken docket.now.packages.list.items choice)) }
+    ensures { IfOk result (λ v. v.items ≡ map (λ p. p.number) (taken docket.now.packages choice)) }
 {
     docket
         .taken(choice)
@@ -70,11 +70,11 @@ fn sold_quantities(
     docket: &Docket,
     row: &[u64; BANDS],
 ) -> Result<Vec<Sold>, AllocError>
-    ensures { IfOk result (λ v. v.items ≡ map (sold_line row.now) docket.now.bands.list.items) }
+    ensures { IfOk result (λ v. v.items ≡ map (sold_line row.now) docket.now.bands) }
 {
     docket
         .bands
-        .list
+        .as_slice()
         .iter()
         .map(|band| Sold {
             band: band.number,

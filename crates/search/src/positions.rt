@@ -1,6 +1,6 @@
 //! A search for the best lawful choice: where it stands, and how it goes on. The rule is consulted on the next block, which is then
 //! skipped, halved, or its one choice tried.
-ghost use Rattle.std.specs.Prelude.{◌≡◌, ◌+◌, ◌^◌, ◌<◌, ◌≤◌, vec_len};
+ghost use Rattle.std.specs.Prelude.{◌≡◌, ◌+◌, ◌^◌, ◌<◌, ◌≤◌, length};
 ghost use Rattle.clearing.specs.Lawful.{view, choices};
 ghost use Rattle.std.specs.Int.Count.{count_trailing_zeros};
 ghost use Rattle.search.specs.Search.{Standing};
@@ -102,7 +102,7 @@ impl Position {
 }
 
 impl Position {
-    ghost use Rattle.std.specs.Prelude.{vec_len};
+    ghost use Rattle.std.specs.Prelude.{length};
     ghost use Rattle.clearing.specs.Lawful.{view};
     ghost use Rattle.search.specs.Search.{StepsTo, RunsFrom, work_left};
 
@@ -110,7 +110,7 @@ impl Position {
     /// at least one choice, and a leader that was the best of the settled choices is so again.
     pub fn run<B: BoundingRule>(self, docket: &Docket, rule: &mut B, steps: u32) -> Position
         ensures runs { RunsFrom (B.BoundingRule.answers rule.old) (view docket.now) steps self result }
-        ensures falls { 0 < steps → self.settled < 2 ^ vec_len docket.now.packages.list → work_left result < work_left self }
+        ensures falls { 0 < steps → self.settled < 2 ^ length docket.now.packages → work_left result < work_left self }
         ensures same_rule { B.BoundingRule.answers rule.new ≡ B.BoundingRule.answers rule.old }
     {
         let all = choices(docket);
@@ -146,11 +146,11 @@ impl Position {
 
 /// The choices of a docket.
 pub fn choices(docket: &Docket) -> u64
-    ensures value { result ≡ 2 ^ vec_len docket.now.packages.list }
+    ensures value { result ≡ 2 ^ length docket.now.packages }
     ensures count { result ≡ choices (view docket.now) }
     ensures bound { result ≤ 2 ^ 40 }
 {
-    1u64 << docket.packages.list.len()
+    1u64 << docket.packages.as_slice().len()
 }
 
 // The count of zero digits that end a choice number.

@@ -1,6 +1,6 @@
 -- `least_cost`: at most 40 packages are counted in each loop, each of a price in range.
 use Rattle.std.specs.List.{list_all}
-use Rattle.std.proofs.Common.{◌≡◌, ℕ, ◌+◌, ◌*◌, ◌<◌, true, List, [], ◌∷◌, ◌++◌, length, get_or, take, vec_items, pos, negsuc, ◌+ℤ◌, ◌≤ℤ◌, sym, ap, ◌∙◌, arith, length-take}
+use Rattle.std.proofs.Common.{◌≡◌, ℕ, ◌+◌, ◌*◌, ◌<◌, true, List, [], ◌∷◌, ◌++◌, length, get_or, take, pos, negsuc, ◌+ℤ◌, ◌≤ℤ◌, sym, ap, ◌∙◌, arith, length-take}
 use Rattle.std.proofs.Math.Seq.{take-length}
 use Rattle.std.specs.Int.{int_min}
 use Rattle.std.proofs.lemmas.Int.{ints, clamps}
@@ -36,10 +36,10 @@ below_zero-between (p ∷ ps) ok =
 
 -- the next of the taken packages adds its price, and there is room for it
 taken-next : (d : Docket) (choice n : ℕ) (p : PricedPackage)
-    → (n < length (taken (vec_items d.packages.list) choice)) × (p ≡ get_or (taken (vec_items d.packages.list) choice) n p)
-    → (cost (take (n + 1) (taken (vec_items d.packages.list) choice)) ≡ cost (take n (taken (vec_items d.packages.list) choice)) +ℤ p.price)
-    × (negsuc 799999999999 ≤ℤ cost (take (n + 1) (taken (vec_items d.packages.list) choice)))
-    × (cost (take (n + 1) (taken (vec_items d.packages.list) choice)) ≤ℤ pos 800000000000)
+    → (n < length (taken d.packages choice)) × (p ≡ get_or (taken d.packages choice) n p)
+    → (cost (take (n + 1) (taken d.packages choice)) ≡ cost (take n (taken d.packages choice)) +ℤ p.price)
+    × (negsuc 799999999999 ≤ℤ cost (take (n + 1) (taken d.packages choice)))
+    × (cost (take (n + 1) (taken d.packages choice)) ≤ℤ pos 800000000000)
 taken-next d choice n p next =
     let room = next-room d choice n p next in
     let r = priced_ranges p (next-fits d choice n p next) in
@@ -58,8 +58,8 @@ free-next ps n p next =
 free-between : (d : Docket) (b : Span) (n : ℕ) → (negsuc 799999999999 ≤ℤ below_zero (take n (free_ones (view d) b))) × (below_zero (take n (free_ones (view d) b)) ≤ℤ pos 0)
 free-between d b n =
     let all = free_ones (view d) b in
-    let between = below_zero-between (take n all) (each_take package_fits n all (each_take package_fits b.free (vec_items d.packages.list) d.packages_fit)) in
-    (omega (arith, ints, between.0, length-take n all, length-take b.free (vec_items d.packages.list), (ranged_docket d).few_packages), between.1)
+    let between = below_zero-between (take n all) (each_take package_fits n all (each_take package_fits b.free d.packages d.packages_fit)) in
+    (omega (arith, ints, between.0, length-take n all, length-take b.free d.packages, (ranged_docket d).few_packages), between.1)
 
 pub overflow_add-cost : goal.overflow_add-cost
 overflow_add-cost c =
@@ -85,7 +85,7 @@ pub overflow_add-cost-in-loop-free : goal.overflow_add-cost-in-loop-free
 overflow_add-cost-in-loop-free c =
     let d = c.args.docket.now in
     let b = c.args.block in
-    let road = YieldsList-from_take {s = c.into_iter-free-iterator.result} b.free (YieldsList-from_slice (vec_items d.packages.list) cc) cc in
+    let road = YieldsList-from_take {s = c.into_iter-free-iterator.result} b.free (YieldsList-from_slice d.packages cc) cc in
     let t = YieldsList-turn road c.loop-free.yielded _ c.loop-free.yielded_by _ c.next-in-loop-free.new.self c.in-Some-free.free c.in-Some-free.is c.next-in-loop-free.ensures.steps in
     let next = free-next (free_ones (view d) b) _ c.in-Some-free.free.now t in
     let between = free-between d b (length c.loop-free.yielded + 1) in
@@ -96,7 +96,7 @@ pub loop-free-preserved : goal.loop-free-preserved
 loop-free-preserved c =
     let d = c.args.docket.now in
     let b = c.args.block in
-    let road = YieldsList-from_take {s = c.into_iter-free-iterator.result} b.free (YieldsList-from_slice (vec_items d.packages.list) cc) cc in
+    let road = YieldsList-from_take {s = c.into_iter-free-iterator.result} b.free (YieldsList-from_slice d.packages cc) cc in
     let t = YieldsList-turn road c.loop-free.yielded _ c.loop-free.yielded_by _ c.next-in-loop-free.new.self c.in-Some-free.free c.in-Some-free.is c.next-in-loop-free.ensures.steps in
     let next = free-next (free_ones (view d) b) _ c.in-Some-free.free.now t in
     let between = free-between d b (length c.loop-free.yielded + 1) in

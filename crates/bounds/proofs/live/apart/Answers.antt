@@ -12,7 +12,7 @@ pub loop-exclusion-preserved : goal.loop-exclusion-preserved
 loop-exclusion-preserved c =
     let key = λ (e : Exclusion). e.member in
     let heads = c.args.heads.now in
-    let xs = c.deref-exclusion-items.result.now in
+    let xs = c.as_slice-exclusion-items.result.now in
     let i = c.loop-exclusion.exclusion-index in
     let e = get_or xs i no_exclusion in
     let h = get_or heads (e.group - 1) 0 in

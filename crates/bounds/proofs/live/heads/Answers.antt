@@ -51,11 +51,11 @@ module _ (takes : List Bool) (xs : List Exclusion) (i : ℕ) (inside : i < lengt
 pub loop-exclusion-preserved : goal.loop-exclusion-preserved
 loop-exclusion-preserved c =
     let takes = c.args.tally.now.takes in
-    let xs = c.deref-exclusion-items.result.now in
+    let xs = c.as_slice-exclusion-items.result.now in
     let i = c.loop-exclusion.exclusion-index in
     let inside = c.loop-exclusion-test.true in
     let e = get_or xs i no_exclusion in
-    let r = exclusion_held c.args.docket.now i xs c.deref-exclusion-items.ensures.value inside in
+    let r = exclusion_held c.args.docket.now i xs c.as_slice-exclusion-items.ensures.value inside in
     elim c.if-tally-exclusion.branch [
       | then-tally-exclusion w ↦
           w.heads-is

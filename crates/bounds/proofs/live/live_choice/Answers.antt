@@ -1,5 +1,5 @@
 -- `live_choice`: where the fixed packages keep the rules, each turn gives one free package more its digit, if the passes say that it could be taken with them.
-use Rattle.std.proofs.Common.{◌≡◌, ℕ, ◌+◌, ◌*◌, ◌^◌, ◌<◌, ◌≤◌, Bool, true, false, List, [], ◌∷◌, ◌++◌, length, get_or, take, vec_items, sym, ap, ◌∙◌, ap₂, subst, add-one, arith}
+use Rattle.std.proofs.Common.{◌≡◌, ℕ, ◌+◌, ◌*◌, ◌^◌, ◌<◌, ◌≤◌, Bool, true, false, List, [], ◌∷◌, ◌++◌, length, get_or, take, sym, ap, ◌∙◌, ap₂, subst, add-one, arith}
 use Rattle.std.specs.List.{filter}
 use Rattle.std.proofs.Math.Nat.{pow-succ'}
 use Rattle.std.proofs.lemmas.Nat.{one_shl}
@@ -63,7 +63,7 @@ returns-then-not-stands c block =
     ∙ sym (none-joins d (fixed v b) (possible v b) (sym (c.stands.ensures (fixed v b) (possible v b) firsts others) ∙ c.if-not-stands.true) (free_ones v b))
 
 pub loop-place-init : goal.loop-place-init
-loop-place-init c = record { bound = omega arith; value = λ block. taken_none (vec_items c.args.docket.now.packages.list) }
+loop-place-init c = record { bound = omega arith; value = λ block. taken_none c.args.docket.now.packages }
 
 pub has_room-requires-clause-nameplate : goal.has_room-requires-clause-nameplate
 has_room-requires-clause-nameplate c =
@@ -78,9 +78,9 @@ loop-place-preserved c =
     let d = c.args.docket.now in
     let v = view d in
     let b = c.args.block in
-    let ps = vec_items d.packages.list in
+    let ps = d.packages in
     let test = joins v (fixed v b) (possible v b) in
-    let held = c.deref-package-items.ensures.value in
+    let held = c.as_slice-package-items.ensures.value in
     let i = c.loop-place.place in
     let before = c.loop-place.invariant in
     let inside : i < length ps = omega (arith, c.loop-place-test.true, ap length held) in
@@ -97,8 +97,8 @@ loop-place-preserved c =
     joins-passed d (fixed v b) (possible v b) c.new-fixed.result c.new-possible.result firsts others bounded
     (sym (c.stands.ensures (fixed v b) (possible v b) firsts others) ∙ c.if-not-stands.false) p
     (each_getD package_fits ps i no_package inside d.packages_fit) in
-    let xs = vec_items d.exclusions.list in
-    let ls = vec_items d.limits.list in
+    let xs = d.exclusions in
+    let ls = d.limits in
     let from = row (tightest 1 ls) 1 16 in
     let to = row (tightest 2 ls) 1 16 in
     let met = ap₂ (λ tests (q : PricedPackage). get_or tests q.number false) c.met-met.ensures same in
@@ -106,7 +106,7 @@ loop-place-preserved c =
     ap₂ (λ tests (q : PricedPackage). get_or tests q.number false)
     (c.apart-apart.ensures ∙ ap (λ hs. row (cleared (λ (e : Exclusion). e.member) (unopposed hs) xs) 0 41) c.heads.ensures) same in
     let rooms =
-    ap₂ (λ one other. room one other c.new-fixed.result (get_or c.deref-package-items.result.now i no_package).terms) c.tightest-interconnection.ensures c.tightest-export.ensures
+    ap₂ (λ one other. room one other c.new-fixed.result (get_or c.as_slice-package-items.result.now i no_package).terms) c.tightest-interconnection.ensures c.tightest-export.ensures
     ∙ ap (λ (q : PricedPackage). room from to c.new-fixed.result q.terms) same in
     elim c.if-place-block.branch [
       | then-place-block+then-met-number+then-apart-number+then-has_room w ↦

@@ -14,7 +14,7 @@ pub loop-pair-preserved : goal.loop-pair-preserved
 loop-pair-preserved c =
     let key = λ (p : Pair). p.dependent in
     let fine = needs c.args.possible.now.takes in
-    let xs = c.deref-pair-items.result.now in
+    let xs = c.as_slice-pair-items.result.now in
     let i = c.loop-pair.pair-index in
     let inside = c.loop-pair-test.true in
     elim c.if-not-possible-pair.branch [

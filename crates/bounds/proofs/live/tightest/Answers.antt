@@ -59,11 +59,11 @@ module _ (sort : ℕ) where
 pub loop-limit-preserved : goal.loop-limit-preserved
 loop-limit-preserved c =
     let sort = sort_byte c.args.sort in
-    let ls = c.deref-limit-items.result.now in
+    let ls = c.as_slice-limit-items.result.now in
     let i = c.loop-limit.limit-index in
     let inside = c.loop-limit-test.true in
     let l = get_or ls i no_limit in
-    let r = limit_ranged c.args.docket.now i ls c.deref-limit-items.ensures.value inside in
+    let r = limit_ranged c.args.docket.now i ls c.as_slice-limit-items.ensures.value inside in
     elim c.if-is_on.branch [
       | then-is_on w ↦
           w.least-is

@@ -1,6 +1,6 @@
 -- `asked_above`: each band that pays above its market's multiplier asks for its quantity at its market's place, and for no more than there is room.
 use Rattle.std.specs.List.{list_all}
-use Rattle.std.proofs.Common.{◌≡◌, ℕ, ◌+◌, ◌-◌, ◌<◌, ◌≤◌, true, ◌&&◌, eqb, leb, ltb, List, [], ◌∷◌, length, get_or, set, take, vec_items, sym, refl, ap, ◌∙◌, subst, arith, cond}
+use Rattle.std.proofs.Common.{◌≡◌, ℕ, ◌+◌, ◌-◌, ◌<◌, ◌≤◌, true, ◌&&◌, eqb, leb, ltb, List, [], ◌∷◌, length, get_or, set, take, sym, refl, ap, ◌∙◌, subst, arith, cond}
 use Rattle.std.proofs.lemmas.List.{length-take, take_more}
 use Rattle.std.proofs.lemmas.Bool.{and_parts, cond_both, eqb-true, ltb-true}
 use Rattle.std.proofs.lemmas.Bool.Decides.{nat_tests}
@@ -40,7 +40,7 @@ counts-elsewhere : (l : Multipliers) (m : ℕ) (b : OpenBand) → (b.terms.marke
 counts-elsewhere l m b not = grind (arith, nat_tests)
 
 -- the bands so far ask for no more than 64 can
-asked-few : (d : Docket) (l : Multipliers) (bs : List OpenBand) (i : ℕ) → bs ≡ vec_items d.bands.list
+asked-few : (d : Docket) (l : Multipliers) (bs : List OpenBand) (i : ℕ) → bs ≡ d.bands
     → list_all (λ n. leb n 6400000000) (row (asked_above (take i bs) l) 1 5) ≡ true
 asked-few d l bs i held =
     let few : length (take i bs) ≤ 64 = simp length-take (omega (arith, ap length held, (ranged_docket d).few_bands)) in
@@ -78,19 +78,19 @@ module _ (l : Multipliers) (bs : List OpenBand) (i : ℕ) (inside : i < length b
 
 pub overflow_add-asked : goal.overflow_add-asked
 overflow_add-asked c =
-    let bs = c.deref-band-items.result.now in
-    let r = band_ranged c.args.docket.now c.loop-band.band-index bs c.deref-band-items.ensures.value c.loop-band-test.true in
-    let few = subst (λ (xs : List ℕ). list_all (λ n. leb n 6400000000) xs ≡ true) (sym c.loop-band.invariant) (asked-few c.args.docket.now c.args.multipliers.now bs c.loop-band.band-index c.deref-band-items.ensures.value) in
+    let bs = c.as_slice-band-items.result.now in
+    let r = band_ranged c.args.docket.now c.loop-band.band-index bs c.as_slice-band-items.ensures.value c.loop-band-test.true in
+    let few = subst (λ (xs : List ℕ). list_all (λ n. leb n 6400000000) xs ≡ true) (sym c.loop-band.invariant) (asked-few c.args.docket.now c.args.multipliers.now bs c.loop-band.band-index c.as_slice-band-items.ensures.value) in
     omega (arith, r.of_record.quantity, each-most 6400000000 c.loop-band.asked ((get_or bs c.loop-band.band-index no_band).terms.market - 1) few)
 
 pub loop-band-preserved : goal.loop-band-preserved
 loop-band-preserved c =
     let l = c.args.multipliers.now in
-    let bs = c.deref-band-items.result.now in
+    let bs = c.as_slice-band-items.result.now in
     let i = c.loop-band.band-index in
     let inside = c.loop-band-test.true in
     let b = get_or bs i no_band in
-    let r = band_ranged c.args.docket.now i bs c.deref-band-items.ensures.value inside in
+    let r = band_ranged c.args.docket.now i bs c.as_slice-band-items.ensures.value inside in
     elim c.if-multipliers-market.branch [
       | then-multipliers-market w ↦
           w.asked-is

@@ -1,5 +1,5 @@
 -- `gainful_choice`: each turn asks of one package more whether it is taken and worth more than its price, and if so gives it its digit.
-use Rattle.std.proofs.Common.{◌≡◌, ℕ, ◌+◌, ◌*◌, ◌/◌, ◌%◌, ◌^◌, ◌<◌, Bool, true, false, cond, ◌&&◌, eqb, List, [], ◌∷◌, ◌++◌, length, get_or, take, vec_items, pos, w64, to_z, of_z, sym, refl, ap, ◌∙◌, add-one, arith}
+use Rattle.std.proofs.Common.{◌≡◌, ℕ, ◌+◌, ◌*◌, ◌/◌, ◌%◌, ◌^◌, ◌<◌, Bool, true, false, cond, ◌&&◌, eqb, List, [], ◌∷◌, ◌++◌, length, get_or, take, pos, w64, to_z, of_z, sym, refl, ap, ◌∙◌, add-one, arith}
 use Rattle.std.specs.Prelude.{int_lt}
 use Rattle.std.specs.List.{filter}
 use Rattle.std.proofs.Math.Nat.{pow-succ'}
@@ -55,15 +55,15 @@ module _ (l : Multipliers) (ps : List PricedPackage) (choice i : ℕ) where
         is ∙ sym (gainful_more inside ∙ ap (λ b. gainful l (taken (take i ps) choice) ++ cond b (here ∷ []) []) not ∙ append-nil _)
 
 pub loop-place-init : goal.loop-place-init
-loop-place-init c = record { bound = omega arith; rest = omega arith; value = taken_none (vec_items c.args.docket.now.packages.list) }
+loop-place-init c = record { bound = omega arith; rest = omega arith; value = taken_none c.args.docket.now.packages }
 
 pub loop-place-preserved : goal.loop-place-preserved
 loop-place-preserved c =
     let d = c.args.docket.now in
     let l = c.args.multipliers.now in
     let choice = c.args.choice in
-    let ps = vec_items d.packages.list in
-    let held = c.deref-package-items.ensures.value in
+    let ps = d.packages in
+    let held = c.as_slice-package-items.ensures.value in
     let i = c.loop-place.place in
     let so_far = c.loop-place.gainful in
     let before = c.loop-place.invariant in

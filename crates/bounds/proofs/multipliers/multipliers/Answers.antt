@@ -1,5 +1,5 @@
 -- `multipliers`: each turn narrows once more, between prices of bands.
-use Rattle.std.proofs.Common.{◌≡◌, ℕ, zero, suc, ◌+◌, ◌/◌, ◌≤◌, Bool, true, cond, ◌&&◌, eqb, leb, ltb, List, [], ◌∷◌, vec_items, refl, sym, ap, ◌∙◌, add-one, subst, arith}
+use Rattle.std.proofs.Common.{◌≡◌, ℕ, zero, suc, ◌+◌, ◌/◌, ◌≤◌, Bool, true, cond, ◌&&◌, eqb, leb, ltb, List, [], ◌∷◌, refl, sym, ap, ◌∙◌, add-one, subst, arith}
 use Rattle.std.specs.List.{AllByRecursion as Every, list_all}
 use Rattle.std.proofs.lemmas.Bool.{cond_both, le-leb}
 use Rattle.clearing.specs.declared.dockets.PricedPackage.{PricedPackage}
@@ -90,15 +90,15 @@ pub loop-turn-preserved : goal.loop-turn-preserved
 loop-turn-preserved c =
     let d = c.args.docket.now in
     let fixed_ones = fixed (view d) c.args.block in
-    let free = taken (vec_items d.packages.list) c.args.live in
+    let free = taken d.packages c.args.live in
     c.narrowed-between.ensures
-    ∙ ap (narrowed (vec_items d.bands.list) fixed_ones free) c.loop-turn.invariant
-    ∙ sym (narrowing_more _ (vec_items d.bands.list) fixed_ones free _)
+    ∙ ap (narrowed d.bands fixed_ones free) c.loop-turn.invariant
+    ∙ sym (narrowing_more _ d.bands fixed_ones free _)
 
 pub returns-clause-range : goal.returns-clause-range
 returns-clause-range c =
     let d = c.args.docket.now in
     let fixed_ones = fixed (view d) c.args.block in
-    let free = taken (vec_items d.packages.list) c.args.live in
-    let within = narrowing_few (vec_items d.bands.list) (ranges_of (vec_items d.bands.list) d.bands_fit) fixed_ones free c.loop-turn._turn in
+    let free = taken d.packages c.args.live in
+    let within = narrowing_few d.bands (ranges_of d.bands d.bands_fit) fixed_ones free c.loop-turn._turn in
     subst Priced (sym c.middle.ensures) (middle_few c.loop-turn.between (subst Within (sym c.loop-turn.invariant) within))

@@ -74,11 +74,11 @@ module _ (amounts : List ℕ) (bs : List OpenBand) (i : ℕ) (inside : i < lengt
 pub loop-band-preserved : goal.loop-band-preserved
 loop-band-preserved c =
     let amounts = c.args.amounts.now in
-    let bs = c.deref-band-items.result.now in
+    let bs = c.as_slice-band-items.result.now in
     let i = c.loop-band.band-index in
     let inside = c.loop-band-test.true in
     let b = get_or bs i no_band in
-    let r = band_ranged c.args.docket.now i bs c.deref-band-items.ensures.value inside in
+    let r = band_ranged c.args.docket.now i bs c.as_slice-band-items.ensures.value inside in
     elim c.if-amounts-market.branch [
       | then-amounts-market w ↦
           w.prices-is

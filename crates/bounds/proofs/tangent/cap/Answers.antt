@@ -1,5 +1,5 @@
 -- `cap`: what the bands pay, what the packages cost and what is above worths have room in 64 bits.
-use Rattle.std.proofs.Common.{ℕ, List, vec_items, sym, ap, ◌∙◌, ap₂, subst, arith}
+use Rattle.std.proofs.Common.{ℕ, List, sym, ap, ◌∙◌, ap₂, subst, arith}
 use Rattle.std.proofs.lemmas.Int.{ints}
 use Rattle.clearing.specs.declared.tallies.Tally.{Tally}
 use Rattle.clearing.specs.Tallies.{plus}
@@ -51,5 +51,5 @@ returns c =
     let all = c.together-all.ensures ∙ ap₂ (λ (one : Tally) (other : List ℕ). plus one.supply other) c.requires c.supply_of-free.ensures in
     let above =
     c.sold_above-sold.ensures.value
-    ∙ ap₂ (sold_above c.args.multipliers.now (vec_items d.bands.list)) (ap (λ (t : Tally). t.supply) c.requires) all in
+    ∙ ap₂ (sold_above c.args.multipliers.now d.bands) (ap (λ (t : Tally). t.supply) c.requires) all in
     omega (arith, ints, income, costs, above, sold.income, cost.low, cost.high, c.gains_above.ensures.value)

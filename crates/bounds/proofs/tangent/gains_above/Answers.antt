@@ -1,5 +1,5 @@
 -- `gains_above`: at most 40 packages are counted, each of a price in range, and no multipliers make their supplies worth more than there is room for.
-use Rattle.std.proofs.Common.{◌≡◌, ℕ, ◌+◌, ◌<◌, List, [], ◌∷◌, ◌++◌, length, get_or, take, vec_items, pos, ◌+ℤ◌, sym, ap, ◌∙◌, arith}
+use Rattle.std.proofs.Common.{◌≡◌, ℕ, ◌+◌, ◌<◌, List, [], ◌∷◌, ◌++◌, length, get_or, take, pos, ◌+ℤ◌, sym, ap, ◌∙◌, arith}
 use Rattle.std.proofs.Math.Seq.{take-length}
 use Rattle.std.specs.Int.{int_max}
 use Rattle.std.proofs.lemmas.Int.{ints, clamps}
@@ -28,8 +28,8 @@ above-next l ps n p next =
     ∙ ap (λ q. gains_above l (take n ps) +ℤ int_max (gain l q) (pos 0)) (sym next.1)
 
 -- it is one of at most 40
-next-few : (d : Docket) (choice n : ℕ) → n < length (taken (vec_items d.packages.list) choice) → n < 40
-next-few d choice n inside = omega (arith, inside, taken-few (vec_items d.packages.list) choice, (ranged_docket d).few_packages)
+next-few : (d : Docket) (choice n : ℕ) → n < length (taken d.packages choice) → n < 40
+next-few d choice n inside = omega (arith, inside, taken-few d.packages choice, (ranged_docket d).few_packages)
 
 pub gain-requires : goal.gain-requires
 gain-requires c =
@@ -44,7 +44,7 @@ overflow_add-above c =
 pub loop-package-preserved : goal.loop-package-preserved
 loop-package-preserved c =
     let t = YieldsList-turn (walk c.args.docket.now c.args.choice c.into_iter-package-iterator.result cc) c.loop-package.yielded _ c.loop-package.yielded_by _ c.next.new.self c.in-Some.package c.in-Some.is c.next.ensures.steps in
-    let next = above-next c.args.multipliers.now (taken (vec_items c.args.docket.now.packages.list) c.args.choice) _ c.in-Some.package.now t in
+    let next = above-next c.args.multipliers.now (taken c.args.docket.now.packages c.args.choice) _ c.in-Some.package.now t in
     let few = next-few c.args.docket.now c.args.choice _ t.0 in
     rw (length_push c.loop-package.yielded c.in-Some.package) (record {
       counted = omega (arith, ints, clamps, next, c.loop-package.invariant, c.gain.ensures);
@@ -56,10 +56,10 @@ pub returns-clause-value : goal.returns-clause-value
 returns-clause-value c =
     let t = YieldsList-end (walk c.args.docket.now c.args.choice c.into_iter-package-iterator.result cc) c.loop-package.yielded _ c.loop-package.yielded_by _ c.next.new.self c.in-None.is c.next.ensures.steps in
     c.loop-package.invariant.counted
-    ∙ ap (λ n. gains_above c.args.multipliers.now (take n (taken (vec_items c.args.docket.now.packages.list) c.args.choice))) t.1
+    ∙ ap (λ n. gains_above c.args.multipliers.now (take n (taken c.args.docket.now.packages c.args.choice))) t.1
     ∙ ap (gains_above c.args.multipliers.now) (take-length _)
 
 pub returns-clause-high : goal.returns-clause-high
 returns-clause-high c =
     let t = YieldsList-end (walk c.args.docket.now c.args.choice c.into_iter-package-iterator.result cc) c.loop-package.yielded _ c.loop-package.yielded_by _ c.next.new.self c.in-None.is c.next.ensures.steps in
-    omega (arith, ints, c.loop-package.invariant, t.1, taken-few (vec_items c.args.docket.now.packages.list) c.args.choice, (ranged_docket c.args.docket.now).few_packages)
+    omega (arith, ints, c.loop-package.invariant, t.1, taken-few c.args.docket.now.packages c.args.choice, (ranged_docket c.args.docket.now).few_packages)

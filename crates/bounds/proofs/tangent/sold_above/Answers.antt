@@ -1,5 +1,5 @@
 -- `sold_above`: at most the greatest quantity is counted of each band, at the greatest price at most.
-use Rattle.std.proofs.Common.{◌≡◌, ℕ, ◌+◌, ◌-◌, ◌*◌, ◌<◌, ◌≤◌, List, [], ◌∷◌, length, get_or, map, take, vec_items, sym, ap, ◌∙◌, ap₂, mul-le-mul, arith}
+use Rattle.std.proofs.Common.{◌≡◌, ℕ, ◌+◌, ◌-◌, ◌*◌, ◌<◌, ◌≤◌, List, [], ◌∷◌, length, get_or, map, take, sym, ap, ◌∙◌, ap₂, mul-le-mul, arith}
 use Rattle.std.proofs.lemmas.List.{get_or-map, take_more}
 use Rattle.clearing.specs.declared.dockets.OpenBand.{OpenBand}
 use Rattle.clearing.specs.Choices.{total}
@@ -45,28 +45,28 @@ counted-at l less more all bs i one other sold above held inside most least so p
 
 pub overflow_mul-above : goal.overflow_mul-above
 overflow_mul-above c =
-    let bs = c.deref-band-items.result.now in
+    let bs = c.as_slice-band-items.result.now in
     let i = c.loop-place.place in
-    let r = band_ranged c.args.docket.now i bs c.deref-band-items.ensures.value c.loop-place-test.true in
-    let is = counted-at c.args.multipliers.now c.args.less.now c.args.more.now (vec_items c.args.docket.now.bands.list) bs i c.sale_at-in-loop-place.result c.sale_at.result c.saturating_sub-sold.result c.saturating_sub.result c.deref-band-items.ensures.value c.loop-place-test.true c.sale_at.ensures c.sale_at-in-loop-place.ensures c.saturating_sub-sold.ensures c.saturating_sub.ensures in
+    let r = band_ranged c.args.docket.now i bs c.as_slice-band-items.ensures.value c.loop-place-test.true in
+    let is = counted-at c.args.multipliers.now c.args.less.now c.args.more.now c.args.docket.now.bands bs i c.sale_at-in-loop-place.result c.sale_at.result c.saturating_sub-sold.result c.saturating_sub.result c.as_slice-band-items.ensures.value c.loop-place-test.true c.sale_at.ensures c.sale_at-in-loop-place.ensures c.saturating_sub-sold.ensures c.saturating_sub.ensures in
     omega (arith, is, counted-most c.args.multipliers.now c.args.less.now c.args.more.now (get_or bs i no_band) r)
 
 pub overflow_add-above : goal.overflow_add-above
 overflow_add-above c =
     let d = c.args.docket.now in
-    let bs = c.deref-band-items.result.now in
+    let bs = c.as_slice-band-items.result.now in
     let i = c.loop-place.place in
-    let r = band_ranged d i bs c.deref-band-items.ensures.value c.loop-place-test.true in
-    let is = counted-at c.args.multipliers.now c.args.less.now c.args.more.now (vec_items c.args.docket.now.bands.list) bs i c.sale_at-in-loop-place.result c.sale_at.result c.saturating_sub-sold.result c.saturating_sub.result c.deref-band-items.ensures.value c.loop-place-test.true c.sale_at.ensures c.sale_at-in-loop-place.ensures c.saturating_sub-sold.ensures c.saturating_sub.ensures in
-    omega (arith, is, counted-most c.args.multipliers.now c.args.less.now c.args.more.now (get_or bs i no_band) r, ap length c.deref-band-items.ensures.value, (ranged_docket d).few_bands)
+    let r = band_ranged d i bs c.as_slice-band-items.ensures.value c.loop-place-test.true in
+    let is = counted-at c.args.multipliers.now c.args.less.now c.args.more.now c.args.docket.now.bands bs i c.sale_at-in-loop-place.result c.sale_at.result c.saturating_sub-sold.result c.saturating_sub.result c.as_slice-band-items.ensures.value c.loop-place-test.true c.sale_at.ensures c.sale_at-in-loop-place.ensures c.saturating_sub-sold.ensures c.saturating_sub.ensures in
+    omega (arith, is, counted-most c.args.multipliers.now c.args.less.now c.args.more.now (get_or bs i no_band) r, ap length c.as_slice-band-items.ensures.value, (ranged_docket d).few_bands)
 
 pub loop-place-preserved : goal.loop-place-preserved
 loop-place-preserved c =
     let l = c.args.multipliers.now in
-    let bs = c.deref-band-items.result.now in
+    let bs = c.as_slice-band-items.result.now in
     let i = c.loop-place.place in
-    let r = band_ranged c.args.docket.now i bs c.deref-band-items.ensures.value c.loop-place-test.true in
-    let is = counted-at c.args.multipliers.now c.args.less.now c.args.more.now (vec_items c.args.docket.now.bands.list) bs i c.sale_at-in-loop-place.result c.sale_at.result c.saturating_sub-sold.result c.saturating_sub.result c.deref-band-items.ensures.value c.loop-place-test.true c.sale_at.ensures c.sale_at-in-loop-place.ensures c.saturating_sub-sold.ensures c.saturating_sub.ensures in (
+    let r = band_ranged c.args.docket.now i bs c.as_slice-band-items.ensures.value c.loop-place-test.true in
+    let is = counted-at c.args.multipliers.now c.args.less.now c.args.more.now c.args.docket.now.bands bs i c.sale_at-in-loop-place.result c.sale_at.result c.saturating_sub-sold.result c.saturating_sub.result c.as_slice-band-items.ensures.value c.loop-place-test.true c.sale_at.ensures c.sale_at-in-loop-place.ensures c.saturating_sub-sold.ensures c.saturating_sub.ensures in (
       omega (arith, is, sold_more l c.args.less.now c.args.more.now bs i no_band c.loop-place-test.true),
       omega (arith, is, counted-most l c.args.less.now c.args.more.now (get_or bs i no_band) r),
     )

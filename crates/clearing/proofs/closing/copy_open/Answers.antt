@@ -1,5 +1,5 @@
 -- `copy_open`: an open record is in range.
-use Rattle.std.proofs.Common.{◌<◌, length, sym, refl, ap, ◌∙◌, arith}
+use Rattle.std.proofs.Common.{◌<◌, length, sym, refl, ◌∙◌, arith}
 use Rattle.std.proofs.lemmas.List.{get_or_read}
 use Rattle.offers.specs.declared.registers.Entry.TheVariants.{Vacant}
 use Rattle.clearing.proofs.Fits.{open_fits}
@@ -16,8 +16,8 @@ loop-entry-preserved g c =
     elim c.match-entry.branch [
       | in-Open w ↦
           let is = sym read ∙ c.entry-item.is ∙ w.in-Open.is in
-          rw w.into-is (one_more _ _ es c.loop-entry.into.list i inside c.loop-entry.invariant w.push.new.self.list w.in-Open.open _ is refl
+          rw w.into-is (one_more _ _ es c.loop-entry.into i inside c.loop-entry.invariant w.push.new.self w.in-Open.open _ is refl
           (open_fits g.R.Record.layout es i _ c.args.ledger.now.in_range is)
           w.push.ensures)
-      | in_default w ↦ none_more _ _ es c.loop-entry.into.list i inside c.loop-entry.invariant _ (λ r is. w.in_default.not-Open r (sym c.entry-item.is ∙ read ∙ is)) (ap (λ b. b.list) w.into-is)
+      | in_default w ↦ none_more _ _ es c.loop-entry.into i inside c.loop-entry.invariant _ (λ r is. w.in_default.not-Open r (sym c.entry-item.is ∙ read ∙ is)) w.into-is
     ]

@@ -1,5 +1,5 @@
 -- `dates_stand`: what is tested over the sums and the sales is what is asked of the packages, and the sums have room.
-use Rattle.std.proofs.Common.{vec_items, sym, subst}
+use Rattle.std.proofs.Common.{sym, subst}
 use Rattle.clearing.specs.Choices.{taken}
 use Rattle.clearing.proofs.Judged.{dates-tested}
 use Rattle.clearing.proofs.Sellings.{Sold, sold_in_all}
@@ -15,5 +15,5 @@ dates_kept-requires c =
 
 pub returns : goal.returns
 returns c =
-    dates-tested c.args.docket.now (taken (vec_items c.args.docket.now.packages.list) c.args.first) c.new-dated.result c.new-dated.ensures
+    dates-tested c.args.docket.now (taken c.args.docket.now.packages c.args.first) c.new-dated.result c.new-dated.ensures
     c.args.last c.new-selling.result c.sell-sales.result c.new-selling.ensures c.sell-sales.ensures c.dates_kept.result c.dates_kept.ensures

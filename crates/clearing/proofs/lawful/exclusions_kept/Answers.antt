@@ -9,7 +9,7 @@ use Rattle.clearing.proofs.lawful.exclusions_kept.Goals.{then-tally-member+in_de
 
 pub loop-exclusion-preserved : goal.loop-exclusion-preserved
 loop-exclusion-preserved c =
-    let xs = c.deref-exclusion-items.result.now in
+    let xs = c.as_slice-exclusion-items.result.now in
     let here = c.loop-exclusion in
     elim c.if-tally-member.branch [
       | then-tally-member+in_default w ↦
@@ -19,22 +19,22 @@ loop-exclusion-preserved c =
             | in_default-via-in-Some+else-other-member v ↦ one_member _ _ (sym is ∙ v.in-Some.is) ∙ v.if-other-member.false
             | in_default-via-in_default v ↦ cc
           ] in
-          firsts_taken c.args.docket.now xs c.deref-exclusion-items.ensures.value c.args.tally.now.takes here.exclusion-index here.first c.loop-exclusion-test.true here.invariant _ w.if-tally-member.true free w.first-is
+          firsts_taken c.args.docket.now xs c.as_slice-exclusion-items.ensures.value c.args.tally.now.takes here.exclusion-index here.first c.loop-exclusion-test.true here.invariant _ w.if-tally-member.true free w.first-is
       | else-tally-member w ↦
-          firsts_passed c.args.docket.now xs c.deref-exclusion-items.ensures.value c.args.tally.now.takes here.exclusion-index here.first c.loop-exclusion-test.true here.invariant _ w.if-tally-member.false w.first-is
+          firsts_passed c.args.docket.now xs c.as_slice-exclusion-items.ensures.value c.args.tally.now.takes here.exclusion-index here.first c.loop-exclusion-test.true here.invariant _ w.if-tally-member.false w.first-is
     ]
 
 pub returns-in-Some : goal.returns-in-Some
 returns-in-Some c =
-    let xs = c.deref-exclusion-items.result.now in
+    let xs = c.as_slice-exclusion-items.result.now in
     let here = c.loop-exclusion in
     decided_false (λ kept.
-    firsts_differ c.args.docket.now xs c.deref-exclusion-items.ensures.value c.args.tally.now.takes here.exclusion-index here.first c.loop-exclusion-test.true here.invariant
+    firsts_differ c.args.docket.now xs c.as_slice-exclusion-items.ensures.value c.args.tally.now.takes here.exclusion-index here.first c.loop-exclusion-test.true here.invariant
     c.if-tally-member.true c.in-Some.other c.in-Some.is c.if-other-member.true
-    (subst (λ es. ExclusionsKept es c.args.tally.now.takes) (sym c.deref-exclusion-items.ensures.value) kept))
+    (subst (λ es. ExclusionsKept es c.args.tally.now.takes) (sym c.as_slice-exclusion-items.ensures.value) kept))
 
 pub returns : goal.returns
 returns c =
-    let xs = c.deref-exclusion-items.result.now in
-    decided_true (subst (λ es. ExclusionsKept es c.args.tally.now.takes) c.deref-exclusion-items.ensures.value
-    (firsts_all c.args.docket.now xs c.deref-exclusion-items.ensures.value c.args.tally.now.takes c.loop-exclusion.exclusion-index c.loop-exclusion.first c.loop-exclusion-test.false c.loop-exclusion.invariant))
+    let xs = c.as_slice-exclusion-items.result.now in
+    decided_true (subst (λ es. ExclusionsKept es c.args.tally.now.takes) c.as_slice-exclusion-items.ensures.value
+    (firsts_all c.args.docket.now xs c.as_slice-exclusion-items.ensures.value c.args.tally.now.takes c.loop-exclusion.exclusion-index c.loop-exclusion.first c.loop-exclusion-test.false c.loop-exclusion.invariant))

@@ -18,14 +18,14 @@ lesser_set next least row_before zone lesser amount sets is was =
 
 pub loop-limit-preserved : goal.loop-limit-preserved
 loop-limit-preserved c =
-    let ls = c.deref-limit-items.result.now in
+    let ls = c.as_slice-limit-items.result.now in
     let i = c.loop-limit.limit-index in
     let l = get_or ls i no_limit in
     let inside = c.loop-limit-test.true in
     let more = ap (λ ls. row (percentage ls) 1 4) (sym (take_more ls i no_limit inside)) in
     elim c.if-is_on.branch [
       | then-is_on w ↦
-          let ranges = limit_ranged c.args.docket.now i ls c.deref-limit-items.ensures.value inside in
+          let ranges = limit_ranged c.args.docket.now i ls c.as_slice-limit-items.ensures.value inside in
           let is = eqb-true l.sort 3 (sym w.if-is_on.ensures) in
           lesser_set _ _ _ _ _ _ w.least-is (omega arith) c.loop-limit.invariant
           ∙ percentages_set (take i ls) l is ranges.zone_least (ranges.percentage_zone is)
@@ -37,4 +37,4 @@ loop-limit-preserved c =
 pub returns-clause-bound : goal.returns-clause-bound
 returns-clause-bound c =
     subst (λ ps. list_all (λ n. leb n 100) ps ≡ true) (sym c.loop-limit.invariant)
-    (percentages_most (take c.loop-limit.limit-index c.deref-limit-items.result.now) 1 4)
+    (percentages_most (take c.loop-limit.limit-index c.as_slice-limit-items.result.now) 1 4)

@@ -1,5 +1,5 @@
 -- `zones_kept`: each limit is in range, and is kept where what counts against it is at most its amount.
-use Rattle.std.proofs.Common.{◌-◌, leb, eqb, cond, get_or, vec_items, rules, tests}
+use Rattle.std.proofs.Common.{◌-◌, leb, eqb, cond, get_or, rules, tests}
 use Rattle.std.proofs.lemmas.Iterator.{YieldsList-from_slice}
 use Rattle.std.proofs.lemmas.Iterator.Adapters.{serves_from_places}
 use Rattle.std.proofs.lemmas.Iterator.Search.{all_from_yields_List}
@@ -13,12 +13,12 @@ use Rattle.clearing.proofs.lawful.zones_kept.Goals as goal
 pub all-requires-clause-callable : goal.all-requires-clause-callable
 all-requires-clause-callable c =
     let d = c.args.docket.now in
-    serves_from_places (YieldsList-from_slice (vec_items d.limits.list) cc) (λ x q h. search rules)
-    (λ x k h e. let ok = each_item (fits limit_layout) (vec_items d.limits.list) k x.now h e d.limits_fit in search (rules, ok))
+    serves_from_places (YieldsList-from_slice d.limits cc) (λ x q h. search rules)
+    (λ x k h e. let ok = each_item (fits limit_layout) d.limits k x.now h e d.limits_fit in search (rules, ok))
 
 pub returns : goal.returns
 returns c =
-    let limits = vec_items c.args.docket.now.limits.list in
+    let limits = c.args.docket.now.limits in
     let t = c.args.tally.now in
     tested-all (λ (l : Limit). leb (cond (eqb l.sort 1) (get_or t.nameplate (l.zone - 1) 0) (cond (eqb l.sort 2) (get_or t.export (l.zone - 1) 0) 0)) l.amount) _
     (λ l. load_decides l.sort _ _ l.amount) limits c.all.result

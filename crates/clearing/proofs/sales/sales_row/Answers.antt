@@ -7,9 +7,9 @@ use Rattle.clearing.proofs.sales.sales_row.Goals as goal
 
 pub loop-band-preserved : goal.loop-band-preserved
 loop-band-preserved c =
-    let bs = c.deref-band-items.result.now in
+    let bs = c.as_slice-band-items.result.now in
     let i = c.loop-band.band-index in
-    let held = c.deref-band-items.ensures.value in
+    let held = c.as_slice-band-items.ensures.value in
     let inside = c.loop-band-test.true in
     let ranges = band_ranged c.args.docket.now i bs held inside in
     ap₂ (λ xs n. set xs ((get_or bs i no_band).number - 1) n) c.loop-band.invariant c.sale.ensures

@@ -1,6 +1,6 @@
 -- `supply_of`: each package that comes is the next that is taken, and there is room for it.
 use Rattle.std.specs.List.{list_all}
-use Rattle.std.proofs.Common.{◌≡◌, ℕ, ◌+◌, true, leb, List, length, take, vec_items, sym, ap, ◌∙◌, subst, add-zero}
+use Rattle.std.proofs.Common.{◌≡◌, ℕ, ◌+◌, true, leb, List, length, take, sym, ap, ◌∙◌, subst, add-zero}
 use Rattle.std.proofs.Math.Seq.{take-length}
 use Rattle.std.proofs.lemmas.List.{length_push}
 use Rattle.std.proofs.lemmas.Iterator.Consumers.{YieldsList-turn, YieldsList-end}
@@ -35,13 +35,13 @@ loop-package-preserved c =
     let t = YieldsList-turn (walk c.args.docket.now c.args.choice c.into_iter-package-iterator.result cc) c.loop-package.yielded _ c.loop-package.yielded_by _ c.next.new.self c.in-Some.package c.in-Some.is c.next.ensures.steps in
     c.add_supply.ensures
     ∙ ap (λ xs. plus xs (row (λ m. supplied m c.in-Some.package.now.terms) 1 5)) c.loop-package.invariant
-    ∙ added-supply (tally_of (take (length c.loop-package.yielded) (taken (vec_items c.args.docket.now.packages.list) c.args.choice))) c.in-Some.package.now
+    ∙ added-supply (tally_of (take (length c.loop-package.yielded) (taken c.args.docket.now.packages c.args.choice))) c.in-Some.package.now
     ∙ ap (λ (t : Tally). t.supply) (next-added c.args.docket.now c.args.choice _ _ t)
-    ∙ ap (λ n. supplies_of (take n (taken (vec_items c.args.docket.now.packages.list) c.args.choice))) (sym (length_push c.loop-package.yielded c.in-Some.package))
+    ∙ ap (λ n. supplies_of (take n (taken c.args.docket.now.packages c.args.choice))) (sym (length_push c.loop-package.yielded c.in-Some.package))
 
 pub returns : goal.returns
 returns c =
     let t = YieldsList-end (walk c.args.docket.now c.args.choice c.into_iter-package-iterator.result cc) c.loop-package.yielded _ c.loop-package.yielded_by _ c.next.new.self c.in-None.is c.next.ensures.steps in
     c.loop-package.invariant
-    ∙ ap (λ n. supplies_of (take n (taken (vec_items c.args.docket.now.packages.list) c.args.choice))) t.1
+    ∙ ap (λ n. supplies_of (take n (taken c.args.docket.now.packages c.args.choice))) t.1
     ∙ ap supplies_of (take-length _)

@@ -1,5 +1,5 @@
 -- `sold_quantities`: a band's number is one of 64.
-use Rattle.std.proofs.Common.{vec_items, sym, refl, subst, arith, rules}
+use Rattle.std.proofs.Common.{sym, refl, subst, arith, rules}
 use Rattle.std.proofs.lemmas.Iterator.{YieldsList-from_slice}
 use Rattle.std.proofs.lemmas.Iterator.Adapters.{serves_from_places}
 use Rattle.std.proofs.lemmas.List.{get_or_read}
@@ -10,7 +10,7 @@ use Rattle.reports.proofs.report.sold_quantities.Goals as goal
 pub collect-requires-clause-can : goal.collect-requires-clause-can
 collect-requires-clause-can c =
     let d = c.args.docket.now in
-    let bands = vec_items d.bands.list in (
+    let bands = d.bands in (
       tt,
       serves_from_places (YieldsList-from_slice bands cc) (λ x q k. search rules)
           (λ x i inside is.

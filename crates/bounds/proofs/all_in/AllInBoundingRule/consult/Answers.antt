@@ -1,5 +1,5 @@
 -- `consult` of all-in: what the bands pay and what the packages cost have room in 64 bits.
-use Rattle.std.proofs.Common.{Some, vec_items, sym, refl, ap, ◌∙◌, subst, arith}
+use Rattle.std.proofs.Common.{Some, sym, refl, ap, ◌∙◌, subst, arith}
 use Rattle.std.proofs.lemmas.Int.{ints}
 use Rattle.clearing.specs.Lawful.{view, income, filled_sales}
 use Rattle.clearing.proofs.Ruled.{income-is}
@@ -22,7 +22,7 @@ returns c =
     let sold = subst Sold (sym c.sell-sales.ensures) (sold_in_all c.new-all.result.supply d) in
     let brings =
     income-is d c.last.result c.new-all.result c.sell-sales.result c.new-all.ensures c.sell-sales.ensures
-    ∙ ap (λ choice. income (vec_items d.bands.list) (filled_sales (view d) choice)) c.last.ensures in
+    ∙ ap (λ choice. income d.bands (filled_sales (view d) choice)) c.last.ensures in
     let costs = c.least_cost.ensures in
     record {
       answer = λ block. ap Some (omega (arith, ints, brings, sold.income, costs.value, costs.low, costs.high));

@@ -1,5 +1,5 @@
 -- `of`: each package that comes is the next that is taken, and there is room for it.
-use Rattle.std.proofs.Common.{take, vec_items, sym, ap, ◌∙◌, subst}
+use Rattle.std.proofs.Common.{take, sym, ap, ◌∙◌, subst}
 use Rattle.std.proofs.Math.Seq.{take-length}
 use Rattle.std.proofs.lemmas.List.{length_push}
 use Rattle.std.proofs.lemmas.Iterator.Consumers.{YieldsList-turn, YieldsList-end}
@@ -22,11 +22,11 @@ loop-package-preserved c =
     c.add.ensures
     ∙ ap (λ s. added s c.in-Some.package.now) c.loop-package.invariant
     ∙ next-added c.args.docket.now c.args.choice _ _ t
-    ∙ ap (λ n. tally_of (take n (taken (vec_items c.args.docket.now.packages.list) c.args.choice))) (sym (length_push c.loop-package.yielded c.in-Some.package))
+    ∙ ap (λ n. tally_of (take n (taken c.args.docket.now.packages c.args.choice))) (sym (length_push c.loop-package.yielded c.in-Some.package))
 
 pub returns : goal.returns
 returns c =
     let t = YieldsList-end (walk c.args.docket.now c.args.choice c.into_iter-package-iterator.result cc) c.loop-package.yielded _ c.loop-package.yielded_by _ c.next.new.self c.in-None.is c.next.ensures.steps in
     c.loop-package.invariant
-    ∙ ap (λ n. tally_of (take n (taken (vec_items c.args.docket.now.packages.list) c.args.choice))) t.1
+    ∙ ap (λ n. tally_of (take n (taken c.args.docket.now.packages c.args.choice))) t.1
     ∙ ap tally_of (take-length _)
