@@ -9,10 +9,10 @@ use Rattle.rounds.proofs.Kept.{serves}
 use Rattle.rounds.proofs.awarded_round.AwardedRound.award.Goals as goal
 
 pub copy_from_slice-requires : goal.copy_from_slice-requires
-copy_from_slice-requires c = length-take-le 64 c.args.row.now c.if-row-lt64.false ∙ sym (ap length c.sales_row-sold.ensures)
+copy_from_slice-requires c = length-take-le 64 c.args.row.now c.if-row-lt-BANDS.false ∙ sym (ap length c.sales_row-sold.ensures)
 
-pub returns-then-row-lt64 : goal.returns-then-row-lt64
-returns-then-row-lt64 c =
+pub returns-then-row-lt-BANDS : goal.returns-then-row-lt-BANDS
+returns-then-row-lt-BANDS c =
     serves (of_awarded c.args.self.now) (ReadAward c.args.row.now) (gave (of_awarded c.args.self.now) (Awarded (Err c.code_only.result) c.args.row.now)) tt (search rules)
 
 pub returns : goal.returns
