@@ -35,10 +35,9 @@ fn searched_by_steps<B: Copy>(
     rule: B,
     steps: usize,
 ) -> Result<Vec<Request<Filed, B>>, AllocError> {
-    let mut requests = vec![in heap;
-        Request::CatchUp(TWO_PACKAGES.to_vec(heap)?),
-        Request::Close(Filed),
-    ]?;
+    let mut requests = Vec::new(heap);
+    requests.push(Request::CatchUp(TWO_PACKAGES.to_vec(heap)?))?;
+    requests.push(Request::Close(Filed))?;
     for _ in 0..steps {
         requests.push(Request::Search(rule, 1))?;
     }
