@@ -12,7 +12,7 @@ use Rattle.bounds.specs.Laws.Joined.{smaller-sound}
 use Rattle.bounds.specs.Laws.Limits.{limits-sound}
 use Rattle.bounds.specs.Laws.AllIn.{all_in-sound}
 use Rattle.bounds.specs.Rules.{limits_and_all_in}
-use Rattle.rounds.specs.Model.{Call, State, IsOpen, IsClosed, IsAwarded, Model, after}
+use Rattle.rounds.specs.Model.{Call, State, IsOpen, IsClosed, IsAwarded, PlainRound, after}
 use Rattle.rounds.specs.Promises.{LawfulCall, PromiseIn}
 use Rattle.rounds.proofs.Runs.{promised}
 use Rattle.acceptance.specs.Answered.{cleared, leader_in, BestIn, Clearing, WorksOut, Clears}
@@ -31,7 +31,7 @@ cleared_lawful [] laws = (filed_bounded, (joined_sound, tt))
 cleared_lawful (call ∷ calls) laws = (laws.0, cleared_lawful calls laws.1)
 
 -- the leader of an awarded round is its best lawful choice
-best : (calls : List Call) (round : Model) (state : State) (choice : ℕ) → PromiseIn calls round state
+best : (calls : List Call) (round : PlainRound) (state : State) (choice : ℕ) → PromiseIn calls round state
     → leader_in state ≡ Some choice → BestIn state choice
 best calls round IsOpen choice promise leads = absurd (none-some choice leads)
 best calls round (IsClosed docket at) choice promise leads = absurd (none-some choice leads)

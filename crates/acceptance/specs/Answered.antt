@@ -8,7 +8,7 @@ use Rattle.pricing.specs.Prices.{filed_price}
 use Rattle.clearing.specs.Choices.{taken}
 use Rattle.clearing.specs.Lawful.{Best}
 use Rattle.bounds.specs.Rules.{limits_and_all_in}
-use Rattle.rounds.specs.Model.{Call, Close, Search, ReadAward, Answer, Done, Found, Awarded, State, IsOpen, IsClosed, IsAwarded, Model, model, after, answers}
+use Rattle.rounds.specs.Model.{Call, Close, Search, ReadAward, Answer, Done, Found, Awarded, State, IsOpen, IsClosed, IsAwarded, PlainRound, plain_round, after, answers}
 
 -- accepted, with nothing to tell
 abbrev pub done : Answer
@@ -27,8 +27,8 @@ abbrev pub row_of : List ℕ → List ℕ
 row_of sales = sales ++ replicate (64 - length sales) 0
 
 -- an open round with entries for packages and bands, and every other number vacant
-abbrev pub open_with : List (Entry Package) → List (Entry Band) → Model
-open_with packages bands = model (record {
+abbrev pub open_with : List (Entry Package) → List (Entry Band) → PlainRound
+open_with packages bands = plain_round (record {
   packages = packages;
   bands = bands;
   pairs = replicate 64 Vacant;
@@ -37,7 +37,7 @@ open_with packages bands = model (record {
 }) IsOpen
 
 -- What a round's first calls are answered, and what they leave of it.
-pub record Leaves (calls : List Call) (answered : List Answer) (round : Model) : Type 0 where
+pub record Leaves (calls : List Call) (answered : List Answer) (round : PlainRound) : Type 0 where
   -- each call, in turn, is answered so
   pub answers : answers calls ≡ answered
   -- and after the last the round is this

@@ -37,7 +37,8 @@ possible v b = taken v.packages (last_of b)
 abbrev pub free_ones : View → Span → List PricedPackage
 free_ones v b = take b.free v.packages
 
--- what an answer says of a block: a cap in pesos is at least the surplus of every lawful choice in it, with any sales; none, that no choice in it is lawful
+-- what an answer says of a block: a cap in pesos is at least the surplus of every lawful choice in it, with any sales; none, that no
+-- choice in it is lawful
 abbrev pub Claims : View → Span → Option ℤ → Type 0
 Claims v b (Some cap) = (choice : ℕ) (sales : List ℕ) → InBlock b choice → Lawful v choice sales → surplus v choice sales ≤ℤ cap
 Claims v b None = (choice : ℕ) (sales : List ℕ) → InBlock b choice → Lawful v choice sales → ⊥

@@ -19,7 +19,7 @@ abbrev pub below_zero : List PricedPackage → ℤ
 below_zero [] = pos 0
 below_zero (p ∷ ps) = int_min p.price (pos 0) +ℤ below_zero ps
 
--- no surplus of a docket comes near this many pesos
+-- a cap above every surplus, in pesos: none is above 64,000,800,000,000,000
 abbrev pub ceiling : ℤ
 ceiling = pos 100000000000000000
 

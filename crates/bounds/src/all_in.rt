@@ -8,6 +8,7 @@ ghost use Rattle.bounds.specs.Laws.AllIn.{all_in-sound};
 use crate::blocks::{Block, BoundingRule};
 use clearing::{Docket, Tally, sell};
 
+/// A cap by taking all that is free: its income whole, and of its prices only those that are negative.
 #[derive(Clone, Copy)]
 pub struct AllIn;
 

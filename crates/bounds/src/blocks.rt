@@ -33,7 +33,7 @@ impl Block {
     }
 }
 
-/// No surplus of any docket comes near this many pesos.
+/// A cap above every surplus, in pesos: none is above 64,000,800,000,000,000.
 pub const CEILING: i64 = 100_000_000_000_000_000;
 
 /// A bounding rule means one answer for each docket and block of it: a cap in pesos, at least the surplus of every lawful

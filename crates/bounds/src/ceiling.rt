@@ -6,6 +6,7 @@ ghost use Rattle.bounds.specs.Laws.Ceiling.{always-sound};
 use crate::blocks::{Block, BoundingRule, CEILING};
 use clearing::Docket;
 
+/// The rule that skips nothing: its cap is above every surplus.
 #[derive(Clone, Copy)]
 pub struct Ceiling;
 

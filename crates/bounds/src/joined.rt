@@ -5,6 +5,7 @@ ghost use Rattle.bounds.specs.Laws.Joined.{joined-sound};
 use crate::blocks::{Block, BoundingRule};
 use clearing::Docket;
 
+/// Two rules as one: no lawful choice if either says so, else the smaller cap.
 #[derive(Clone, Copy)]
 pub struct Joined<P, Q>(pub P, pub Q);
 

@@ -8,6 +8,7 @@ ghost use Rattle.bounds.specs.Laws.Limits.{limits-sound};
 use crate::blocks::{Block, BoundingRule, CEILING};
 use clearing::{Docket, Tally, exclusions_kept, pairs_kept, zones_kept};
 
+/// Tells no lawful choice where the packages that every choice of the block takes break a rule already.
 #[derive(Clone, Copy)]
 pub struct Limits;
 

@@ -8,6 +8,7 @@ ghost use Rattle.bounds.specs.Laws.OneByOne.{one_by_one-sound};
 use crate::blocks::{Block, BoundingRule};
 use clearing::{Docket, Tally, sell};
 
+/// A cap by what each free package alone would add.
 #[derive(Clone, Copy)]
 pub struct OneByOne;
 

@@ -7,6 +7,7 @@ ghost use Rattle.bounds.specs.Laws.Shares.{shares-sound};
 use crate::blocks::{Block, BoundingRule, CEILING};
 use clearing::{Docket, dates_stand};
 
+/// Tells no lawful choice where what is dated of the fixed packages is above its percentage of the most that can be sold.
 #[derive(Clone, Copy)]
 pub struct Shares;
 

@@ -14,6 +14,7 @@ use crate::live::live_choice;
 use crate::multipliers::{gain, multipliers, together};
 use clearing::{Docket, Tally, sale_at, sell, supply_of};
 
+/// A cap by multipliers: what a unit of each market is taken to be worth.
 #[derive(Clone, Copy)]
 pub struct Tangent;
 

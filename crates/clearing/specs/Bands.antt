@@ -24,7 +24,7 @@ comes_ahead a b = ahead_by a.terms b.terms (nat_lt a.number b.number)
 abbrev pub ahead_of : List (Numbered Band) → Numbered Band → ℕ
 ahead_of bands b = total (λ a. if comes_ahead a b then a.terms.quantity else 0) bands
 
--- each number is greater than those before it, which are all at least `low`
+-- the numbers rise, and the first is greater than `low`
 abbrev pub rises_from : ℕ → List ℕ → Bool
 rises_from low [] = true
 rises_from low (n ∷ ns) = nat_lt low n && rises_from n ns

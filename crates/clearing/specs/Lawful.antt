@@ -55,7 +55,8 @@ market_income (b ∷ bs) (s ∷ ss) m = (if b.terms.market == m then s * b.terms
 abbrev pub income : List OpenBand → List ℕ → ℕ
 income bands sales = total (market_income bands sales) markets
 
--- the percentage that binds: the least of those that are set for it, or 100
+-- the percentage that binds, of four: the least of those that are set for it, or 100. They are 1 power before, 2 power after,
+-- 3 certificates before, 4 certificates after.
 abbrev pub percentage : List Limit → ℕ → ℕ
 percentage [] zone = 100
 percentage (l ∷ ls) zone = if l.sort == 3 && l.zone == zone then min l.amount (percentage ls zone) else percentage ls zone
@@ -69,7 +70,9 @@ pub record LawfulFor (v : View) (T : List PricedPackage) (sales : List ℕ) : Ty
   -- a taken package that needs another has it taken
   pub pairs : Every (λ p. has_number p.dependent T ≡ true → has_number p.needed T ≡ true) v.pairs
   -- no two different packages of a group are taken
-  pub exclusions : Every (λ e. Every (λ f. e.group ≡ f.group → has_number e.member T ≡ true → has_number f.member T ≡ true → e.member ≡ f.member) v.exclusions) v.exclusions
+  pub exclusions : Every (λ e. Every (λ f.
+      e.group ≡ f.group → has_number e.member T ≡ true → has_number f.member T ≡ true → e.member ≡ f.member)
+      v.exclusions) v.exclusions
   -- unqualified nameplates in a zone stay within its interconnection limits
   pub interconnection : Every (λ l. l.sort ≡ 1 → nameplates l.zone T ≤ l.amount) v.limits
   -- unqualified energy from a zone stays within its export limits
@@ -93,7 +96,7 @@ surplus v choice sales = pos (income v.bands sales) -ℤ cost (taken v.packages 
 abbrev pub filled_sales : View → ℕ → List ℕ
 filled_sales v choice = map (filled (row (λ m. supply m (taken v.packages choice)) 1 5)) v.bands
 
--- what a choice is worth with filled sales; nothing is said only where no sales make it lawful
+-- what a choice is worth with filled sales; `None` only where no sales make it lawful
 abbrev pub Worth : View → ℕ → Option ℤ → Type 0
 Worth v choice (Some worth) = Lawful v choice (filled_sales v choice) × (worth ≡ surplus v choice (filled_sales v choice))
 Worth v choice None = (sales : List ℕ) → Lawful v choice sales → ⊥
@@ -106,8 +109,10 @@ choices v = 2 ^ length v.packages
 pub record BestBelow (v : View) (bound choice : ℕ) : Type 0 where
   pub below : choice < bound
   pub lawful : Lawful v choice (filled_sales v choice)
-  pub greatest : (other : ℕ) (sales : List ℕ) → other < bound → Lawful v other sales → surplus v other sales ≤ℤ surplus v choice (filled_sales v choice)
-  pub earliest : (other : ℕ) (sales : List ℕ) → other < bound → Lawful v other sales → surplus v other sales ≡ surplus v choice (filled_sales v choice) → choice ≤ other
+  pub greatest : (other : ℕ) (sales : List ℕ) → other < bound → Lawful v other sales
+      → surplus v other sales ≤ℤ surplus v choice (filled_sales v choice)
+  pub earliest : (other : ℕ) (sales : List ℕ) → other < bound → Lawful v other sales
+      → surplus v other sales ≡ surplus v choice (filled_sales v choice) → choice ≤ other
 
 -- best of all
 abbrev pub Best : View → ℕ → Type 0

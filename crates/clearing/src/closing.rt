@@ -96,7 +96,7 @@ fn ahead_of(ledger: &Ledger<Band, BANDS>, at: usize, band: &Band) -> u64
     let mut ahead = 0u64;
     for (i, entry) in ledger.entries.iter().enumerate() {
         if let Entry::Open(other) = entry {
-            if comes_ahead(other, band, i < at) {
+            if ahead_by(other, band, i < at) {
                 ahead += other.quantity as u64;
             }
         }
@@ -104,9 +104,8 @@ fn ahead_of(ledger: &Ledger<Band, BANDS>, at: usize, band: &Band) -> u64
     ahead
 }
 
-// Whether a band is served before another: a higher price in its market, or an equal price and a smaller number, which the records do
-// not have.
-fn comes_ahead(other: &Band, band: &Band, smaller_number: bool) -> bool
+// Whether `other` is served before `band`. A record does not have its number, so the caller says whether that of `other` is smaller.
+fn ahead_by(other: &Band, band: &Band, smaller_number: bool) -> bool
     ensures { result ≡ ahead_by other.now band.now smaller_number }
 {
     other.market == band.market

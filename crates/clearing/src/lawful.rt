@@ -22,7 +22,7 @@ pub fn pairs_kept(docket: &Docket, tally: &Tally, possible: &Tally) -> bool
     })
 }
 
-/// Whether no two different taken packages are in one group. A loop, since each turn looks at what the turns before it saw.
+/// Whether no two different taken packages are in one group.
 pub fn exclusions_kept(docket: &Docket, tally: &Tally) -> bool
     ensures { IsTrue result ↔ (ExclusionsKept docket.now.exclusions tally.now.takes) }
 {
@@ -118,8 +118,7 @@ pub fn dates_stand(docket: &Docket, first: u64, last: u64) -> bool
     dates_kept(docket, &dated, &sales)
 }
 
-/// The surplus in pesos of a choice with filled sales, if it is lawful. One docket is asked about many choices, so the two stay two
-/// parameters, here and below.
+/// The surplus in pesos of a choice with filled sales, if it is lawful.
 pub fn worth(docket: &Docket, choice: u64) -> Option<i64>
     ensures value { result ≡ worth_of (view docket.now) choice }
     ensures worth { Worth (view docket.now) choice result }

@@ -10,8 +10,10 @@ mod sales;
 mod tallies;
 
 /// The docket of a closing: what was open, each package with its price.
-pub use bounded::BoundedVec;
 pub use dockets::{Docket, OpenBand, PricedPackage};
+
+/// A docket's lists, of bounded length: read one by `as_slice`.
+pub use bounded::BoundedVec;
 
 /// The packages that a choice takes, one after another, and what they come to together.
 pub use choices::Taken;

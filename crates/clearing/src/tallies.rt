@@ -7,16 +7,16 @@ ghost use Rattle.clearing.specs.Tallies.{tally_of, Room, added, row, plus};
 use crate::dockets::{Docket, PricedPackage};
 use offers::Date;
 
-/// Power in a zone is the market of that number, so markets stay numbers: each is its place in the rows below, counted from 1.
+/// The market of energy; markets 1 to 3 are power in the zone of that number.
 pub const ENERGY: usize = 4;
 
+/// The market of certificates.
 pub const CERTIFICATES: usize = 5;
 
-/// The sums over the taken packages. Market m stands at place m - 1, zone z at place z - 1. The rules fix how many markets, zones
-/// and numbers there are, and a step gets no memory, so rows are arrays; what takes one row is handed one, so they stand apart.
+/// The sums over the taken packages. Market m stands at place m - 1, zone z at place z - 1.
 #[derive(Clone, Copy)]
 pub struct Tally {
-    /// by offer number: is it taken?
+    /// by offer number, place 0 standing for none: is it taken?
     pub takes: [bool; 41],
     /// MW, MWh or certificates by market: all, and those of packages dated before and after
     pub supply: [u64; 5],
@@ -65,7 +65,6 @@ impl Tally {
         if terms.is_dated(Date::After) {
             add_supply(&mut self.after, more);
         }
-        // a mark is 0 or 1, and has no other case that a name would tell apart
         if terms.unqualified == 1 {
             self.nameplate[terms.interconnection_zone as usize - 1] += terms.nameplate as u64;
             self.export[terms.export_zone as usize - 1] += terms.energy as u64;

@@ -20,8 +20,7 @@ pub(crate) fn first_outside(in_range: &[bool]) -> Option<u8>
     Some(place as u8 + 2)
 }
 
-/// Writes the last `N` of a number's eight bytes from `at` on. Slice and place stay two parameters, here and below: the fields of a
-/// record stand at fixed places of one slice.
+/// Writes the last `N` of a number's eight bytes from `at` on.
 pub(crate) fn put<const N: usize>(out: &mut [u8], at: usize, value: u64)
     requires few { N ≤ 8 }
     requires room { at + N ≤ length out.old }

@@ -18,10 +18,10 @@ abbrev pub currency_rates : ℕ → ℕ → Bool
 currency_rates preference expectation = within 10000 11000 preference && within 5000 20000 expectation
 
 -- a number of a rule out of its range: the code alone
-abbrev pub number_outside : Refusal
-number_outside = code_only FieldOutside
+abbrev pub rule_refused : Refusal
+rule_refused = code_only FieldOutside
 
 -- what a check answers of a rule's numbers: those in range, made into what holds them; others are refused with the code alone
 abbrev pub MadeIf : {X : Type 0} → Result X Refusal → Bool → (X → Type 0) → Type 0
 MadeIf (Ok made) in_range Holds = (in_range ≡ true) × Holds made
-MadeIf (Err refusal) in_range Holds = (in_range ≡ false) × (refusal ≡ number_outside)
+MadeIf (Err refusal) in_range Holds = (in_range ≡ false) × (refusal ≡ rule_refused)

@@ -24,7 +24,6 @@ impl<P: PriceRule> PriceRule for Currency<P> {
     fn price(&mut self, terms: &Package) -> Result<i64, Fault> {
         let depth = self.depth();
         let below = self.below.price(terms)?;
-        // a mark is 0 or 1, and has no other case that a name would tell apart
         if terms.dollar == 1 {
             checked(depth, round_up(below * self.rates.product()))
         } else {

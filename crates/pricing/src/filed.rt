@@ -5,6 +5,7 @@ ghost use Rattle.std.proofs.Common.{rules};
 use crate::rules::{Fault, PriceRule};
 use offers::Package;
 
+/// A package costs what was filed.
 #[derive(Clone, Copy)]
 pub struct Filed;
 

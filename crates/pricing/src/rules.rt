@@ -22,8 +22,7 @@ pub trait PriceRule {
         ensures same { meaning self.new ≡ meaning self.old }
         ensures same_level { level self.new ≡ level self.old };
 
-    /// How far up the stack the rule stands, the lowest being 1; a byte that wraps. Each rule says it in a line, since a default could
-    /// not know what stands below.
+    /// How far up the stack the rule stands, the lowest being 1; a byte that wraps.
     fn depth(&self) -> u8
         ensures { result ≡ level self.now };
 

@@ -4,7 +4,7 @@ use Rattle.offers.specs.declared.refusals.Refusal.{Refusal}
 use Rattle.pricing.specs.Prices.{filed_price}
 use Rattle.bounds.specs.Blocks.{Answers}
 use Rattle.rounds.specs.declared.awarded_round.AwardedRound.{AwardedRound}
-use Rattle.rounds.specs.Model.{Call, CatchUp, Close, Answer, Done, Model, answers_from, after_from}
+use Rattle.rounds.specs.Model.{Call, CatchUp, Close, Answer, Done, PlainRound, answers_from, after_from}
 use Rattle.rounds.specs.Promises.{refusal_in}
 use Rattle.rounds.specs.Views.{of_awarded, Finishes}
 
@@ -22,17 +22,17 @@ first_refusal [] = None
 first_refusal (answer ∷ answers) = first_of (refusal_in answer) (first_refusal answers)
 
 -- A round that is awarded what a sheet makes of it, searched by a rule of this meaning.
-pub record Cleared (rule : Answers) (before : Model) (sheet : List ℕ) (round : AwardedRound) : Type 0 where
+pub record Cleared (rule : Answers) (before : PlainRound) (sheet : List ℕ) (round : AwardedRound) : Type 0 where
   -- both calls are accepted
   pub accepted : answers_from before (sheet_calls sheet) ≡ Done (Ok tt) ∷ Done (Ok tt) ∷ []
   -- and the round is searched to its end by the rule; so its award is the best, as every run promises
   pub finished : Finishes (after_from before (sheet_calls sheet)) rule (of_awarded round)
 
 -- or the first of the two that is refused says why
-abbrev pub NotCleared : Model → List ℕ → Refusal → Type 0
+abbrev pub NotCleared : PlainRound → List ℕ → Refusal → Type 0
 NotCleared before sheet why = first_refusal (answers_from before (sheet_calls sheet)) ≡ Some why
 
 -- what clearing a sheet comes to: a round that is awarded, or a refusal
-abbrev pub ClearsTo : Answers → Model → List ℕ → Result AwardedRound Refusal → Type 0
+abbrev pub ClearsTo : Answers → PlainRound → List ℕ → Result AwardedRound Refusal → Type 0
 ClearsTo rule before sheet (Ok round) = Cleared rule before sheet round
 ClearsTo rule before sheet (Err why) = NotCleared before sheet why

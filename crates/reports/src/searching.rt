@@ -9,7 +9,7 @@ use clearing::Docket;
 pub enum Rules {
     /// limits and all-in joined
     Stated,
-    /// limits, all-in, shares and tangent joined
+    /// these with shares and tangent joined to them
     Quick,
 }
 

@@ -4,11 +4,11 @@ use Rattle.clearing.specs.Closing.{closing}
 use Rattle.pricing.specs.Prices.{Meaning}
 use Rattle.clearing.specs.Lawful.{View, nothing_open}
 use Rattle.clearing.proofs.OpenDockets.{closing_open}
-use Rattle.rounds.specs.Model.{Call, Close, IsOpen, Model, accepted, step, open_and_vacant, after_from, after, some_accepted}
+use Rattle.rounds.specs.Model.{Call, Close, IsOpen, PlainRound, accepted, step, open_and_vacant, after_from, after, some_accepted}
 use Rattle.rounds.specs.Promises.{closes, LastClosing}
 
 -- a run and then another
-pub after_append : (m : Model) (xs ys : List Call) → after_from m (xs ++ ys) ≡ after_from (after_from m xs) ys
+pub after_append : (m : PlainRound) (xs ys : List Call) → after_from m (xs ++ ys) ≡ after_from (after_from m xs) ys
 after_append m [] ys = refl
 after_append m (x ∷ xs) ys = after_append (step m x).after xs ys
 
@@ -25,7 +25,7 @@ or_false true = refl
 or_false false = refl
 
 -- a call is accepted in a run with one call more if it was so before or is that one
-pub some_more : (test : Call → Bool) (m : Model) (calls : List Call) (call : Call)
+pub some_more : (test : Call → Bool) (m : PlainRound) (calls : List Call) (call : Call)
     → some_accepted test m (calls ++ call ∷ []) ≡ (some_accepted test m calls || (test call && accepted (step (after_from m calls) call).answer))
 some_more test m [] call = or_false (test call && accepted (step m call).answer)
 some_more test m (x ∷ xs) call =
@@ -53,7 +53,7 @@ closing_more calls v was call none = record {
   last =
       let here = since_closing was.before was.later was.price ∙ ap after (sym was.so) in
       some_more closes (after (was.before ++ Close was.price ∷ [])) was.later call
-      ∙ neither _ _ was.last (ap (λ (m : Model). closes call && accepted (step m call).answer) here ∙ none);
+      ∙ neither _ _ was.last (ap (λ (m : PlainRound). closes call && accepted (step m call).answer) here ∙ none);
 }
 
 -- a closing that is accepted is the last

@@ -7,7 +7,7 @@ use Rattle.bounds.specs.Blocks.{Answers, SoundRule}
 use Rattle.rounds.specs.declared.requests.Request.{Request}
 use Rattle.rounds.specs.declared.requests.Request.TheVariants as request
 use Rattle.rounds.specs.Requests.{call_of}
-use Rattle.rounds.specs.Model.{open_and_vacant, after_from, after, Stepped, Call, Model, step}
+use Rattle.rounds.specs.Model.{open_and_vacant, after_from, after, Stepped, Call, PlainRound, step}
 use Rattle.rounds.specs.Promises.{LawfulCall, Promise, Promised, Keeps}
 use Rattle.rounds.specs.Views.{Continues, Serves}
 use Rattle.rounds.proofs.Histories.{after_append, after_more}
@@ -19,9 +19,9 @@ lawful_append [] ys laws more = more
 lawful_append (x ∷ xs) ys laws more = (laws.0, lawful_append xs ys laws.1 more)
 
 -- a call that gives what the plain round's step gives continues every run
-continues : (before : Model) (call : Call) (s : Stepped) → LawfulCall call → s ≡ step before call → Continues before call s
+continues : (before : PlainRound) (call : Call) (s : Stepped) → LawfulCall call → s ≡ step before call → Continues before call s
 continues before call s law e calls laws at =
-    let same : s ≡ step (after calls) call = e ∙ sym (ap (λ (m : Model). step m call) at) in
+    let same : s ≡ step (after calls) call = e ∙ sym (ap (λ (m : PlainRound). step m call) at) in
     let round : s.after ≡ after (calls ++ call ∷ []) = ap (λ (x : Stepped). x.after) same ∙ sym (after_more calls call) in
     record {
       round = round;
@@ -30,7 +30,7 @@ continues before call s law e calls laws at =
     }
 
 -- and so it owes nothing more
-pub serves : (before : Model) (call : Call) (s : Stepped) → LawfulCall call → s ≡ step before call → Serves before call s
+pub serves : (before : PlainRound) (call : Call) (s : Stepped) → LawfulCall call → s ≡ step before call → Serves before call s
 serves before call s law e = record { step = e; keeps = subst (Keeps before call) (sym e) (keeps_step before call); run = continues before call s law e }
 
 lawful_again : (call : Call) (n : ℕ) → LawfulCall call → Every LawfulCall (replicate n call)
@@ -38,11 +38,11 @@ lawful_again call zero law = tt
 lawful_again call (suc n) law = (law, lawful_again call n law)
 
 -- so many of one call more
-pub promised_again : (before : Model) (call : Call) (n : ℕ) (left : Model) → LawfulCall call → left ≡ after_from before (replicate n call)
+pub promised_again : (before : PlainRound) (call : Call) (n : ℕ) (left : PlainRound) → LawfulCall call → left ≡ after_from before (replicate n call)
     → (calls : List Call) → Every LawfulCall calls → after calls ≡ before → Promise (calls ++ replicate n call) left
 promised_again before call n left law is calls laws led =
     let more = replicate n call in
-    let same : left ≡ after (calls ++ more) = is ∙ sym (ap (λ (m : Model). after_from m more) led) ∙ sym (after_append open_and_vacant calls more) in
+    let same : left ≡ after (calls ++ more) = is ∙ sym (ap (λ (m : PlainRound). after_from m more) led) ∙ sym (after_append open_and_vacant calls more) in
     subst (Promise (calls ++ more)) (sym same) (promised (calls ++ more) (lawful_append calls more laws (lawful_again call n law)))
 
 module _ {P B : Type 0} (meaning : P → Meaning) (answers : B → Answers) (bounded : (rule : P) (p : Package) → Bounded (meaning rule p)) (sound : (rule : B) → SoundRule (answers rule)) where

@@ -29,7 +29,7 @@ use Rattle.bounds.specs.Blocks.{SoundRule}
 use Rattle.search.specs.Search.{Standing, Placed, Leading, Leads, finished, after_steps}
 use Rattle.search.proofs.Placings.{start-placed}
 use Rattle.search.proofs.Leadings.{start-leads}
-use Rattle.rounds.specs.Model.{NotTaken, Reopened, told, award, written, Call, File, Withdraw, CatchUp, Close, Search, Reopen, ReadAward, WriteSheet, Answer, State, IsOpen, IsClosed, IsAwarded, Model, model, Stepped, accepted, step_in, step, open_and_vacant, after}
+use Rattle.rounds.specs.Model.{NotTaken, Reopened, told, award, written, Call, File, Withdraw, CatchUp, Close, Search, Reopen, ReadAward, WriteSheet, Answer, State, IsOpen, IsClosed, IsAwarded, PlainRound, plain_round, Stepped, accepted, step_in, step, open_and_vacant, after}
 use Rattle.rounds.specs.Promises.{LawfulCall, withdraws, withdrawn, closes, LastClosing, Promise, PromiseIn}
 use Rattle.rounds.proofs.Entered.{vacant_sound, filed_sound, withdrawn_sound, caught_sound}
 use Rattle.rounds.proofs.Dockets.{made, made_by, none_taken}
@@ -55,7 +55,7 @@ InState calls (IsClosed v at) = Searching calls v at
 InState calls (IsAwarded v at) = Searching calls v at × (at.settled ≡ choices v)
 
 -- What holds after every run of calls.
-pub record Holds (calls : List Call) (m : Model) : Type 0 where
+pub record Holds (calls : List Call) (m : PlainRound) : Type 0 where
   pub sound : Sound m.entries
   pub gone : (i : ℕ) → withdrawn (i + 1) calls ≡ true → Gone m.entries i
   pub in_state : InState calls m.state
@@ -154,7 +154,7 @@ no_true b e f = true≢false (sym e ∙ f)
 
 module _ (calls : List Call) (all : Entries) (sound : Sound all) (gone : (i : ℕ) → withdrawn (i + 1) calls ≡ true → Gone all i) where
   -- an open round closes if each open package has a price
-  closes_on : (price : Meaning) → after calls ≡ model all IsOpen → ((p : Package) → Bounded (price p)) → Next calls (Close price) all (step_in all IsOpen (Close price))
+  closes_on : (price : Meaning) → after calls ≡ plain_round all IsOpen → ((p : Package) → Bounded (price p)) → Next calls (Close price) all (step_in all IsOpen (Close price))
   closes_on price at bounded = by (priced price (open_from 1 all.packages)) refl
     where
       by : (r : Result (List PricedPackage) Refusal) → priced price (open_from 1 all.packages) ≡ r → Next calls (Close price) all (step_in all IsOpen (Close price))
@@ -169,7 +169,7 @@ module _ (calls : List Call) (all : Entries) (sound : Sound all) (gone : (i : �
           rw e (record {
             enters = leaves all sound (Close price) _ refl (λ i no _. true≢false (sym no));
             in_state = record {
-              closing = closing_now calls v price (ap (λ (r : Model). r.state) at) (ap (λ (r : Model). closing nothing_open r.entries price) at ∙ m.is);
+              closing = closing_now calls v price (ap (λ (r : PlainRound). r.state) at) (ap (λ (r : PlainRound). closing nothing_open r.entries price) at ∙ m.is);
               closed = closed;
               without = none;
               placed = start-placed v;
@@ -208,7 +208,7 @@ quiet : (calls : List Call) (all : Entries) (s : State) (call : Call) (answer : 
 quiet calls all s call answer sound held none = record { enters = leaves all sound call (told all s answer) refl none; in_state = held }
 
 -- Whatever the state, one call more keeps what holds.
-next : (calls : List Call) (all : Entries) (s : State) (call : Call) → after calls ≡ model all s → LawfulCall call → Holds calls (model all s) → Next calls call all (step_in all s call)
+next : (calls : List Call) (all : Entries) (s : State) (call : Call) → after calls ≡ plain_round all s → LawfulCall call → Holds calls (plain_round all s) → Next calls call all (step_in all s call)
 next calls all IsOpen (File n x) is law h = record { enters = filed all h.sound n x; in_state = tt }
 next calls all IsOpen (Withdraw k n) is law h = record { enters = withdrew all h.sound k n; in_state = tt }
 next calls all IsOpen (CatchUp sheet) is law h = record { enters = caught all h.sound sheet; in_state = tt }
@@ -220,7 +220,7 @@ next calls all IsOpen (WriteSheet buffer) is law h = quiet calls all IsOpen (Wri
 next calls all (IsClosed v at) (File n x) is law h = quiet calls all (IsClosed v at) (File n x) NotTaken h.sound (stays calls v at (File n x) h.in_state refl) (λ i no _. true≢false (sym no))
 next calls all (IsClosed v at) (Withdraw k n) is law h = quiet calls all (IsClosed v at) (Withdraw k n) NotTaken h.sound (stays calls v at (Withdraw k n) h.in_state refl) (λ i _ no. true≢false (sym no))
 next calls all (IsClosed v at) (CatchUp sheet) is law h = quiet calls all (IsClosed v at) (CatchUp sheet) NotTaken h.sound (stays calls v at (CatchUp sheet) h.in_state refl) (λ i _ no. true≢false (sym no))
-next calls all (IsClosed v at) (Close price) is law h = quiet calls all (IsClosed v at) (Close price) NotTaken h.sound (stays calls v at (Close price) h.in_state (ap (λ (m : Model). accepted (step m (Close price)).answer) is)) (λ i _ no. true≢false (sym no))
+next calls all (IsClosed v at) (Close price) is law h = quiet calls all (IsClosed v at) (Close price) NotTaken h.sound (stays calls v at (Close price) h.in_state (ap (λ (m : PlainRound). accepted (step m (Close price)).answer) is)) (λ i _ no. true≢false (sym no))
 next calls all (IsClosed v at) (Search rule count) is law h = searches_on calls all h.sound h.gone v at rule count law h.in_state
 next calls all (IsClosed v at) Reopen is law h = quiet calls all IsOpen Reopen Reopened h.sound tt (λ i no _. true≢false (sym no))
 next calls all (IsClosed v at) (ReadAward lent) is law h = quiet calls all (IsClosed v at) (ReadAward lent) NotTaken h.sound (stays calls v at (ReadAward lent) h.in_state refl) (λ i no _. true≢false (sym no))
@@ -228,21 +228,21 @@ next calls all (IsClosed v at) (WriteSheet buffer) is law h = quiet calls all (I
 next calls all (IsAwarded v at) (File n x) is law h = quiet calls all (IsAwarded v at) (File n x) NotTaken h.sound (stays calls v at (File n x) h.in_state.0 refl, h.in_state.1) (λ i no _. true≢false (sym no))
 next calls all (IsAwarded v at) (Withdraw k n) is law h = quiet calls all (IsAwarded v at) (Withdraw k n) NotTaken h.sound (stays calls v at (Withdraw k n) h.in_state.0 refl, h.in_state.1) (λ i _ no. true≢false (sym no))
 next calls all (IsAwarded v at) (CatchUp sheet) is law h = quiet calls all (IsAwarded v at) (CatchUp sheet) NotTaken h.sound (stays calls v at (CatchUp sheet) h.in_state.0 refl, h.in_state.1) (λ i _ no. true≢false (sym no))
-next calls all (IsAwarded v at) (Close price) is law h = quiet calls all (IsAwarded v at) (Close price) NotTaken h.sound (stays calls v at (Close price) h.in_state.0 (ap (λ (m : Model). accepted (step m (Close price)).answer) is), h.in_state.1) (λ i _ no. true≢false (sym no))
+next calls all (IsAwarded v at) (Close price) is law h = quiet calls all (IsAwarded v at) (Close price) NotTaken h.sound (stays calls v at (Close price) h.in_state.0 (ap (λ (m : PlainRound). accepted (step m (Close price)).answer) is), h.in_state.1) (λ i _ no. true≢false (sym no))
 next calls all (IsAwarded v at) (Search rule count) is law h = quiet calls all (IsAwarded v at) (Search rule count) NotTaken h.sound (stays calls v at (Search rule count) h.in_state.0 refl, h.in_state.1) (λ i no _. true≢false (sym no))
 next calls all (IsAwarded v at) Reopen is law h = quiet calls all IsOpen Reopen Reopened h.sound tt (λ i no _. true≢false (sym no))
 next calls all (IsAwarded v at) (ReadAward lent) is law h = quiet calls all (IsAwarded v at) (ReadAward lent) (award v at lent) h.sound (stays calls v at (ReadAward lent) h.in_state.0 refl, h.in_state.1) (λ i no _. true≢false (sym no))
 next calls all (IsAwarded v at) (WriteSheet buffer) is law h = quiet calls all (IsAwarded v at) (WriteSheet buffer) (written all buffer) h.sound (stays calls v at (WriteSheet buffer) h.in_state.0 refl, h.in_state.1) (λ i no _. true≢false (sym no))
 
 -- so a package that was withdrawn by then is gone
-gone_more : (calls : List Call) (all : Entries) (s : State) (call : Call) → after calls ≡ model all s → ((i : ℕ) → withdrawn (i + 1) calls ≡ true → Gone all i) → Enters call all (step_in all s call)
+gone_more : (calls : List Call) (all : Entries) (s : State) (call : Call) → after calls ≡ plain_round all s → ((i : ℕ) → withdrawn (i + 1) calls ≡ true → Gone all i) → Enters call all (step_in all s call)
     → (i : ℕ) → withdrawn (i + 1) (calls ++ call ∷ []) ≡ true → Gone (step_in all s call).after.entries i
 gone_more calls all s call at gone enters i said =
     ⊎_elim
     (λ (was : withdrawn (i + 1) calls ≡ true). enters.lasts i (gone i was))
     (λ (now : (withdraws (i + 1) call && accepted (step (after calls) call).answer) ≡ true).
     let parts = and_parts (withdraws (i + 1) call) (accepted (step (after calls) call).answer) now in
-    enters.says i parts.0 (subst (λ (m : Model). accepted (step m call).answer ≡ true) at parts.1))
+    enters.says i parts.0 (subst (λ (m : PlainRound). accepted (step m call).answer ≡ true) at parts.1))
     (or_cases (withdrawn (i + 1) calls) (withdraws (i + 1) call && accepted (step (after calls) call).answer) (sym (some_more (withdraws (i + 1)) open_and_vacant calls call) ∙ said))
 
 -- One call more, on what calls left.
@@ -268,7 +268,7 @@ holds_on calls (call ∷ more) laws h =
 pub holds : (calls : List Call) → Every LawfulCall calls → Holds calls (after calls)
 holds calls laws = holds_on [] calls laws (record { sound = vacant_sound; gone = λ i no. absurd (true≢false (sym no)); in_state = tt })
 
-kept : (calls : List Call) (all : Entries) (s : State) → InState calls s → PromiseIn calls (model all s) s
+kept : (calls : List Call) (all : Entries) (s : State) → InState calls s → PromiseIn calls (plain_round all s) s
 kept calls all IsOpen h = tt
 kept calls all (IsClosed v at) h = record {
   closing = h.closing;

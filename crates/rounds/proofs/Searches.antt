@@ -15,7 +15,7 @@ use Rattle.search.specs.Search.{Standing, Placed, Leads, finished, after_step, a
 use Rattle.search.proofs.Placings.{Moved, step-placed, moves_on}
 use Rattle.search.proofs.Leadings.{step-leads}
 use Rattle.search.proofs.Zeros.{power-smaller}
-use Rattle.rounds.specs.Model.{Call, File, Withdraw, CatchUp, Close, Search, Reopen, ReadAward, WriteSheet, IsClosed, IsAwarded, model, accepted, Found, told, searched, after_from, some_accepted}
+use Rattle.rounds.specs.Model.{Call, File, Withdraw, CatchUp, Close, Search, Reopen, ReadAward, WriteSheet, IsClosed, IsAwarded, plain_round, accepted, Found, told, searched, after_from, some_accepted}
 use Rattle.rounds.specs.Promises.{reopens, steps_of, steps_given, settled_in}
 
 -- a search that is not finished has a choice to settle
@@ -66,8 +66,8 @@ small_block v at placed below =
     power-smaller at.free (length v.packages) at.settled (le_of_dvd placed.some (dvd_of_mod-eq-zero (2 ^ at.free) block.zeros)) below
 
 -- an awarded round stays so until it is reopened
-awarded_stays : (all : Entries) (v : View) (at : Standing) (more : List Call) → some_accepted reopens (model all (IsAwarded v at)) more ≡ false
-    → settled_in (after_from (model all (IsAwarded v at)) more).state ≡ at.settled
+awarded_stays : (all : Entries) (v : View) (at : Standing) (more : List Call) → some_accepted reopens (plain_round all (IsAwarded v at)) more ≡ false
+    → settled_in (after_from (plain_round all (IsAwarded v at)) more).state ≡ at.settled
 awarded_stays all v at [] none = refl
 awarded_stays all v at (File n offer ∷ more) none = awarded_stays all v at more none
 awarded_stays all v at (Withdraw k n ∷ more) none = awarded_stays all v at more none
@@ -80,9 +80,9 @@ awarded_stays all v at (WriteSheet buffer ∷ more) none = awarded_stays all v a
 
 -- as many steps as there are packages settle a choice, over any calls but a reopening
 pub settles : (all : Entries) (v : View) (from at : Standing) (so_far : ℕ) (more : List Call) → Placed v from → from.settled < choices v → Moved from at so_far
-    → some_accepted reopens (model all (IsClosed v at)) more ≡ false
-    → length v.packages ≤ so_far + steps_given (model all (IsClosed v at)) more
-    → from.settled < settled_in (after_from (model all (IsClosed v at)) more).state
+    → some_accepted reopens (plain_round all (IsClosed v at)) more ≡ false
+    → length v.packages ≤ so_far + steps_given (plain_round all (IsClosed v at)) more
+    → from.settled < settled_in (after_from (plain_round all (IsClosed v at)) more).state
 settles all v from at so_far [] placed below moved none enough =
     ⊎_elim (λ (h : from.settled < at.settled). h) (λ (h : at.settled ≤ from.settled). absurd (omega (arith, small_block v from placed below, moved.smaller h))) (cases_lt from.settled at.settled)
 settles all v from at so_far (File n offer ∷ more) placed below moved none enough = settles all v from at so_far more placed below moved none (omega arith)
@@ -101,11 +101,11 @@ settles all v from at so_far (Search rule count ∷ more) placed below moved non
     to = after_steps rule v count at
 
     ended : (b : Bool) → finished v to ≡ b
-        → (Moved from to (so_far + count) → some_accepted reopens (model all (IsClosed v to)) more ≡ false → length v.packages ≤ so_far + count + steps_given (model all (IsClosed v to)) more
-        → from.settled < settled_in (after_from (model all (IsClosed v to)) more).state)
-        → some_accepted reopens (model all (cond b (IsAwarded v to) (IsClosed v to))) more ≡ false
-        → length v.packages ≤ so_far + (count + steps_given (model all (cond b (IsAwarded v to) (IsClosed v to))) more)
-        → from.settled < settled_in (after_from (model all (cond b (IsAwarded v to) (IsClosed v to))) more).state
+        → (Moved from to (so_far + count) → some_accepted reopens (plain_round all (IsClosed v to)) more ≡ false → length v.packages ≤ so_far + count + steps_given (plain_round all (IsClosed v to)) more
+        → from.settled < settled_in (after_from (plain_round all (IsClosed v to)) more).state)
+        → some_accepted reopens (plain_round all (cond b (IsAwarded v to) (IsClosed v to))) more ≡ false
+        → length v.packages ≤ so_far + (count + steps_given (plain_round all (cond b (IsAwarded v to) (IsClosed v to))) more)
+        → from.settled < settled_in (after_from (plain_round all (cond b (IsAwarded v to) (IsClosed v to))) more).state
     ended true e on none enough =
         let all_settled = eqb-true to.settled (choices v) e in
         let still = awarded_stays all v to more none in
@@ -113,10 +113,10 @@ settles all v from at so_far (Search rule count ∷ more) placed below moved non
     ended false e on none enough = on (steps_move rule v from at count so_far moved e) none (omega arith)
 
     by : (b : Bool)
-        → (some_accepted reopens (model all (IsClosed v at)) more ≡ false → length v.packages ≤ so_far + steps_given (model all (IsClosed v at)) more
-        → from.settled < settled_in (after_from (model all (IsClosed v at)) more).state)
-        → (Moved from to (so_far + count) → some_accepted reopens (model all (IsClosed v to)) more ≡ false → length v.packages ≤ so_far + count + steps_given (model all (IsClosed v to)) more
-        → from.settled < settled_in (after_from (model all (IsClosed v to)) more).state)
+        → (some_accepted reopens (plain_round all (IsClosed v at)) more ≡ false → length v.packages ≤ so_far + steps_given (plain_round all (IsClosed v at)) more
+        → from.settled < settled_in (after_from (plain_round all (IsClosed v at)) more).state)
+        → (Moved from to (so_far + count) → some_accepted reopens (plain_round all (IsClosed v to)) more ≡ false → length v.packages ≤ so_far + count + steps_given (plain_round all (IsClosed v to)) more
+        → from.settled < settled_in (after_from (plain_round all (IsClosed v to)) more).state)
         → some_accepted reopens (cond b (searched all v to) (told all (IsClosed v at) (Found (Err (code_only StepsOutside))))).after more ≡ false
         → length v.packages ≤ so_far + (steps_of (Search rule count) (accepted (cond b (searched all v to) (told all (IsClosed v at) (Found (Err (code_only StepsOutside))))).answer) + steps_given (cond b (searched all v to) (told all (IsClosed v at) (Found (Err (code_only StepsOutside))))).after more)
         → from.settled < settled_in (after_from (cond b (searched all v to) (told all (IsClosed v at) (Found (Err (code_only StepsOutside))))).after more).state

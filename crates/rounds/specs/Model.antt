@@ -66,25 +66,25 @@ pub data State : Type 0 where
   IsAwarded : View → Standing → State
 
 -- A plain round: the entries of all kinds, and its state.
-pub record Model : Type 0 where
+pub record PlainRound : Type 0 where
   pub entries : Entries
   pub state : State
 
-abbrev pub model : Entries → State → Model
-model entries state = record { entries = entries; state = state }
+abbrev pub plain_round : Entries → State → PlainRound
+plain_round entries state = record { entries = entries; state = state }
 
 -- what a call leaves, and what it answers
 pub record Stepped : Type 0 where
-  pub after : Model
+  pub after : PlainRound
   pub answer : Answer
 
 -- an answer that leaves all as it is
 abbrev pub told : Entries → State → Answer → Stepped
-told entries state answer = record { after = model entries state; answer = answer }
+told entries state answer = record { after = plain_round entries state; answer = answer }
 
 -- filing, withdrawing or catching up
 abbrev pub entered : Outcome Entries → Stepped
-entered o = record { after = model o.after IsOpen; answer = Done o.answer }
+entered o = record { after = plain_round o.after IsOpen; answer = Done o.answer }
 
 -- a closing makes the docket, and choice 0 is settled and leads
 abbrev pub closed_state : Result Unit Refusal → View → State
@@ -92,14 +92,14 @@ closed_state (Ok done) v = IsClosed v start_position
 closed_state (Err e) v = IsOpen
 
 abbrev pub closed : Entries → Outcome View → Stepped
-closed entries o = record { after = model entries (closed_state o.answer o.after); answer = Done o.answer }
+closed entries o = record { after = plain_round entries (closed_state o.answer o.after); answer = Done o.answer }
 
 -- a search that ends finished makes the award
 abbrev pub searched_state : View → Standing → State
 searched_state v at = if finished v at then IsAwarded v at else IsClosed v at
 
 abbrev pub searched : Entries → View → Standing → Stepped
-searched entries v at = record { after = model entries (searched_state v at); answer = Found (Ok (at.settled, at.surplus)) }
+searched entries v at = record { after = plain_round entries (searched_state v at); answer = Found (Ok (at.settled, at.surplus)) }
 
 -- what the packages that a choice takes supply, market m at place m - 1
 abbrev pub supplies : View → ℕ → List ℕ
@@ -133,23 +133,23 @@ step_in all (IsAwarded v at) (ReadAward lent) = told all (IsAwarded v at) (award
 step_in all state (WriteSheet buffer) = told all state (written all buffer)
 step_in all state call = told all state NotTaken
 
-abbrev pub step : Model → Call → Stepped
+abbrev pub step : PlainRound → Call → Stepped
 step m call = step_in m.entries m.state call
 
 -- a round begins open and vacant
-abbrev pub open_and_vacant : Model
-open_and_vacant = model all_vacant IsOpen
+abbrev pub open_and_vacant : PlainRound
+open_and_vacant = plain_round all_vacant IsOpen
 
 -- calls one after another, each on what the one before it left
-abbrev pub after_from : Model → List Call → Model
+abbrev pub after_from : PlainRound → List Call → PlainRound
 after_from m [] = m
 after_from m (call ∷ calls) = after_from (step m call).after calls
 
-abbrev pub after : List Call → Model
+abbrev pub after : List Call → PlainRound
 after calls = after_from open_and_vacant calls
 
 -- what calls are answered, each on what the one before it left
-abbrev pub answers_from : Model → List Call → List Answer
+abbrev pub answers_from : PlainRound → List Call → List Answer
 answers_from m [] = []
 answers_from m (call ∷ calls) = let s : Stepped = step m call in s.answer ∷ answers_from s.after calls
 
@@ -177,11 +177,11 @@ abbrev pub moment : Stepped → PlainMoment
 moment s = record { answer = s.answer; entries = s.after.entries; stage = stage_in s.after.state }
 
 -- the moments of a run, one after each call
-abbrev pub moments_from : Model → List Call → List PlainMoment
+abbrev pub moments_from : PlainRound → List Call → List PlainMoment
 moments_from m [] = []
 moments_from m (call ∷ calls) = moment (step m call) ∷ moments_from (step m call).after calls
 
 -- one of the calls passes a test and is accepted
-abbrev pub some_accepted : (Call → Bool) → Model → List Call → Bool
+abbrev pub some_accepted : (Call → Bool) → PlainRound → List Call → Bool
 some_accepted test m [] = false
 some_accepted test m (call ∷ calls) = (test call && accepted (step m call).answer) || some_accepted test (step m call).after calls

@@ -1,4 +1,4 @@
--- What is promised of a round, in words of the subject. Nothing here says how a search goes.
+-- What is promised of a round after calls. How a step of the search is made stands in Search.antt of `search`.
 use Rattle.std.specs.Prelude.{◌≡◌, ℕ, ◌+◌, ◌-◌, ◌<◌, ◌≤◌, Bool, true, false, ◌&&◌, List, [], ◌∷◌, ◌++◌, map, length, Ok, Err, Some, None, Option, ◌==◌, slice_index_or, if◌then◌else◌}
 use Rattle.offers.specs.declared.kinds.Kind.{Kind}
 use Rattle.offers.specs.declared.kinds.Kind.TheVariants as kind
@@ -15,7 +15,7 @@ use Rattle.clearing.specs.Closing.{OfOpen, closing}
 use Rattle.clearing.specs.Lawful.{View, nothing_open, filled_sales, choices}
 use Rattle.bounds.specs.Blocks.{SoundRule}
 use Rattle.search.specs.Search.{Standing, Leading}
-use Rattle.rounds.specs.Model.{Call, File, Withdraw, CatchUp, Close, Search, Reopen, ReadAward, WriteSheet, Answer, Done, Found, Reopened, Awarded, Written, NotTaken, State, IsOpen, IsClosed, IsAwarded, Model, Stepped, accepted, sold_row, step, open_and_vacant, after_from, after, some_accepted}
+use Rattle.rounds.specs.Model.{Call, File, Withdraw, CatchUp, Close, Search, Reopen, ReadAward, WriteSheet, Answer, Done, Found, Reopened, Awarded, Written, NotTaken, State, IsOpen, IsClosed, IsAwarded, PlainRound, Stepped, accepted, sold_row, step, open_and_vacant, after_from, after, some_accepted}
 
 -- a call whose rule, if it has one, shows its law: prices in range, or answers that are true of every block of every docket that a closing makes
 abbrev pub LawfulCall : Call → Type 0
@@ -50,6 +50,7 @@ withdraws n (WriteSheet buffer) = false
 abbrev pub withdrawn : ℕ → List Call → Bool
 withdrawn n calls = some_accepted (withdraws n) open_and_vacant calls
 
+-- a call closes the round
 abbrev pub closes : Call → Bool
 closes (File n offer) = false
 closes (Withdraw k n) = false
@@ -60,6 +61,7 @@ closes Reopen = false
 closes (ReadAward lent) = false
 closes (WriteSheet buffer) = false
 
+-- a call reopens it
 abbrev pub reopens : Call → Bool
 reopens (File n offer) = false
 reopens (Withdraw k n) = false
@@ -98,7 +100,7 @@ steps_of (ReadAward lent) so = 0
 steps_of (WriteSheet buffer) so = 0
 
 -- the steps that the accepted searches among calls are given, together
-abbrev pub steps_given : Model → List Call → ℕ
+abbrev pub steps_given : PlainRound → List Call → ℕ
 steps_given m [] = 0
 steps_given m (call ∷ calls) = steps_of call (accepted (step m call).answer) + steps_given (step m call).after calls
 
@@ -122,23 +124,25 @@ pub record OfAward (calls : List Call) (docket : View) (at : Standing) : Type 0 
   pub sales : map (λ b. slice_index_or (sold_row docket at.leader) (b.number - 1) 0) docket.bands ≡ filled_sales docket at.leader
 
 -- Of a round that is closed and not yet awarded; `round` is what the calls left.
-pub record OfSearch (calls : List Call) (round : Model) (docket : View) (at : Standing) : Type 0 where
+pub record OfSearch (calls : List Call) (round : PlainRound) (docket : View) (at : Standing) : Type 0 where
   -- its docket is that of the last accepted closing
   pub closing : LastClosing calls docket
   -- the leader is the best of the choices settled
   pub leader : Leading docket at.settled at
-  -- while one is unsettled, as many steps as there are open packages settle one more, over whatever calls follow with no reopening among them
-  pub goes_on : at.settled < choices docket → (more : List Call) → some_accepted reopens round more ≡ false → length docket.packages ≤ steps_given round more
+  -- while a choice is unsettled: if no reopening follows, searches that are given as many steps together as there are open packages
+  -- settle one more, whatever other calls stand between them
+  pub goes_on : at.settled < choices docket → (more : List Call) → some_accepted reopens round more ≡ false
+      → length docket.packages ≤ steps_given round more
       → at.settled < settled_in (after_from round more).state
 
 -- an open round has no docket, and so nothing is promised of one
-abbrev pub PromiseIn : List Call → Model → State → Type 0
+abbrev pub PromiseIn : List Call → PlainRound → State → Type 0
 PromiseIn calls round IsOpen = Unit {0}
 PromiseIn calls round (IsClosed docket at) = OfSearch calls round docket at
 PromiseIn calls round (IsAwarded docket at) = OfAward calls docket at
 
 -- What is promised of a round that calls led to from open and vacant.
-abbrev pub Promise : List Call → Model → Type 0
+abbrev pub Promise : List Call → PlainRound → Type 0
 Promise calls round = PromiseIn calls round round.state
 
 -- the refusal that an answer is, if it is one
@@ -175,7 +179,7 @@ lent_back (Written r buffer) = buffer
 lent_back NotTaken = []
 
 -- What every call keeps.
-pub record Keeps (before : Model) (call : Call) (s : Stepped) : Type 0 where
+pub record Keeps (before : PlainRound) (call : Call) (s : Stepped) : Type 0 where
   -- no offer number goes back, and a record never changes
   pub onward : (k : Kind) (i : ℕ) → Onward (slice_index_or (entries_of before.entries k) i Vacant) (slice_index_or (entries_of s.after.entries k) i Vacant)
   -- a call that is not accepted leaves the round as it was

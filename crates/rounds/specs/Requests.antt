@@ -8,10 +8,10 @@ use Rattle.rounds.specs.declared.requests.Request.{Request}
 use Rattle.rounds.specs.declared.requests.Request.TheVariants as request
 use Rattle.rounds.specs.declared.requests.Reply.{Reply}
 use Rattle.rounds.specs.declared.requests.Reply.TheVariants as reply
-use Rattle.rounds.specs.Model.{Call, File, Withdraw, CatchUp, Close, Search, Reopen, ReadAward, WriteSheet, Answer, Done, Found, Reopened, Awarded, Written, NotTaken, Model, Stepped}
+use Rattle.rounds.specs.Model.{Call, File, Withdraw, CatchUp, Close, Search, Reopen, ReadAward, WriteSheet, Answer, Done, Found, Reopened, Awarded, Written, NotTaken, PlainRound, Stepped}
 use Rattle.rounds.specs.Views.{of_open, of_closed, of_awarded, gave}
 
-abbrev pub of_round : Round → Model
+abbrev pub of_round : Round → PlainRound
 of_round (round.Open r) = of_open r
 of_round (round.Closed r) = of_closed r
 of_round (round.Awarded r) = of_awarded r

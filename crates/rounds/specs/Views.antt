@@ -11,19 +11,19 @@ use Rattle.rounds.specs.declared.closed_round.ClosedRound.{ClosedRound}
 use Rattle.rounds.specs.declared.awarded_round.AwardedRound.{AwardedRound}
 use Rattle.rounds.specs.declared.closed_round.Searched.{Searched}
 use Rattle.rounds.specs.declared.closed_round.Searched.TheVariants as searched
-use Rattle.rounds.specs.Model.{step, Call, Search, Answer, State, IsOpen, IsClosed, IsAwarded, Model, model, Stepped, Done, Found, after_from, after}
+use Rattle.rounds.specs.Model.{step, Call, Search, Answer, State, IsOpen, IsClosed, IsAwarded, PlainRound, plain_round, Stepped, Done, Found, after_from, after}
 use Rattle.rounds.specs.Promises.{LawfulCall, Promise, Keeps}
 
-abbrev pub of_open : OpenRound → Model
-of_open r = model (entries_in r.offers) IsOpen
+abbrev pub of_open : OpenRound → PlainRound
+of_open r = plain_round (entries_in r.offers) IsOpen
 
-abbrev pub of_closed : ClosedRound → Model
-of_closed r = model (entries_in r.offers) (IsClosed (view r.docket) r.at)
+abbrev pub of_closed : ClosedRound → PlainRound
+of_closed r = plain_round (entries_in r.offers) (IsClosed (view r.docket) r.at)
 
-abbrev pub of_awarded : AwardedRound → Model
-of_awarded r = model (entries_in r.offers) (IsAwarded (view r.docket) r.at)
+abbrev pub of_awarded : AwardedRound → PlainRound
+of_awarded r = plain_round (entries_in r.offers) (IsAwarded (view r.docket) r.at)
 
-abbrev pub of_searched : Searched → Model
+abbrev pub of_searched : Searched → PlainRound
 of_searched (searched.Closed r) = of_closed r
 of_searched (searched.Awarded r) = of_awarded r
 
@@ -34,7 +34,7 @@ docket_in (IsClosed docket at) = docket
 docket_in (IsAwarded docket at) = docket
 
 -- what a call left and answered
-abbrev pub gave : Model → Answer → Stepped
+abbrev pub gave : PlainRound → Answer → Stepped
 gave after answer = record { after = after; answer = answer }
 
 -- a closing gives a closed round, or the open one back with the refusal
@@ -56,11 +56,11 @@ pub record OneMore (calls : List Call) (call : Call) (s : Stepped) : Type 0 wher
   pub promise : Promise (calls ++ call ∷ []) s.after
 
 -- So it is of every run of calls with lawful rules that led to the round.
-abbrev pub Continues : Model → Call → Stepped → Type 0
+abbrev pub Continues : PlainRound → Call → Stepped → Type 0
 Continues before call s = (calls : List Call) → Every LawfulCall calls → after calls ≡ before → OneMore calls call s
 
 -- What every call of a round owes, of the round before it and of what it gave back.
-pub record Serves (before : Model) (call : Call) (s : Stepped) : Type 0 where
+pub record Serves (before : PlainRound) (call : Call) (s : Stepped) : Type 0 where
   -- answer, next state and every buffer are those of the plain round
   pub step : s ≡ step before call
   -- no entry goes back, and a call that is not accepted alters nothing
@@ -74,7 +74,7 @@ Falls (searched.Closed r) from = work_left r.at < work_left from
 Falls (searched.Awarded r) from = Unit {0}
 
 -- A closed round is searched to its end.
-pub record Finishes (before : Model) (rule : Answers) (round : Model) : Type 0 where
+pub record Finishes (before : PlainRound) (rule : Answers) (round : PlainRound) : Type 0 where
   -- so many searches under a rule, each of so many steps, a number that a search takes, lead to the round
   pub searches : ℕ
   pub steps : ℕ

@@ -49,7 +49,7 @@ impl AwardedRound {
         &self.docket
     }
 
-    /// Writes the sheet of the offers into the buffer's first bytes, and gives its length.
+    /// Writes the sheet of the offers into the buffer's first bytes, and gives its length. Refused with code 11 where the buffer is shorter.
     pub fn write_sheet(&self, buffer: &mut [u8]) -> Result<usize, Refusal>
         ensures { Serves (of_awarded self.now) (WriteSheet buffer.old) (gave (of_awarded self.now) (Written result buffer.new)) }
     {
@@ -70,7 +70,7 @@ impl AwardedRound {
     }
 }
 
-// The leader as an award. A function, so that a proof can name it.
+// The leader as an award.
 fn leader(at: Position) -> Award
     ensures { result ≡ record { choice = at.leader; surplus = at.surplus } }
 {

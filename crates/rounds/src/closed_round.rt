@@ -31,7 +31,8 @@ impl ClosedRound {
     ghost use Rattle.rounds.specs.Model.{Search, Reopen, WriteSheet, Reopened, Written, step};
     ghost use Rattle.rounds.specs.Views.{of_open, of_closed, gave, gave_search, Serves, Falls};
 
-    /// Makes so many steps of the search, 1 to 1,000,000, or fewer if it finishes: choices settled, and the leader's surplus in pesos.
+    /// Makes so many steps, or fewer if the search finishes, and answers choices settled and the leader's surplus in pesos. Refused with
+    /// code 12 unless the steps are 1 to 1,000,000.
     pub fn search<B: BoundingRule>(
         self,
         rule: &mut B,
@@ -62,7 +63,7 @@ impl ClosedRound {
         (next, Ok(found))
     }
 
-    /// Writes the sheet of the offers into the buffer's first bytes, and gives its length.
+    /// Writes the sheet of the offers into the buffer's first bytes, and gives its length. Refused with code 11 where the buffer is shorter.
     pub fn write_sheet(&self, buffer: &mut [u8]) -> Result<usize, Refusal>
         ensures { Serves (of_closed self.now) (WriteSheet buffer.old) (gave (of_closed self.now) (Written result buffer.new)) }
     {
@@ -83,7 +84,7 @@ impl ClosedRound {
     }
 }
 
-// What a search has found: choices settled, and the leader's surplus. A function, so that a proof can name the pair.
+// What a search has found: choices settled, and the leader's surplus.
 fn found(at: Position) -> (u64, i64)
     ensures { result ≡ (at.settled, at.surplus) }
 {

@@ -7,7 +7,7 @@ use crate::closed_round::{ClosedRound, Searched};
 use bounds::BoundingRule;
 use search::choices;
 
-/// Who wants to know how far a search is. A closure in its place would have `finish` require that it may be called.
+/// Who wants to know how far a search is.
 pub trait Progress {
     /// Choices settled of all, and the surplus of the leader in pesos.
     fn note(&mut self, settled: u64, choices: u64, surplus: i64);
@@ -37,7 +37,7 @@ pub fn finish<B: BoundingRule, P: Progress>(
     }
 }
 
-// Steps between two words. A function, since a number in its place would be counted down in proofs.
+// Steps between two words.
 fn steps_a_turn() -> u32
     ensures some { 1 ≤ result }
     ensures most { result ≤ 1000000 }

@@ -33,35 +33,36 @@ impl OpenRound {
         })
     }
 
-    /// Files an offer under a number of its kind. A refusal of this or of the two calls below leaves the round as it was.
+    /// Files an offer under a number of its kind. Refused with code 1, 2, 3 or 4; a refusal of this or of the two calls below leaves the
+    /// round as it was.
     pub fn file(&mut self, number: u8, offer: Offer) -> Result<(), Refusal>
         ensures { Serves (of_open self.old) (File number offer) (gave (of_open self.new) (Done result)) }
     {
         self.offers.file(number, offer)
     }
 
-    /// Withdraws a number of a kind.
+    /// Withdraws a number of a kind. Refused with code 1, 4 or 5.
     pub fn withdraw(&mut self, kind: Kind, number: u8) -> Result<(), Refusal>
         ensures { Serves (of_open self.old) (Withdraw kind number) (gave (of_open self.new) (Done result)) }
     {
         self.offers.withdraw(kind, number)
     }
 
-    /// Takes in a whole sheet, or nothing of it.
+    /// Takes in a whole sheet, or nothing of it. Refused with code 1, 2 or 6 to 9, of the first field at fault.
     pub fn catch_up(&mut self, sheet: &[u8]) -> Result<(), Refusal>
         ensures { Serves (of_open self.old) (CatchUp sheet.now) (gave (of_open self.new) (Done result)) }
     {
         catch_up(&mut self.offers, sheet)
     }
 
-    /// Writes the sheet of the offers into the buffer's first bytes, and gives its length.
+    /// Writes the sheet of the offers into the buffer's first bytes, and gives its length. Refused with code 11 where the buffer is shorter.
     pub fn write_sheet(&self, buffer: &mut [u8]) -> Result<usize, Refusal>
         ensures { Serves (of_open self.now) (WriteSheet buffer.old) (gave (of_open self.now) (Written result buffer.new)) }
     {
         write_sheet(&self.offers, buffer)
     }
 
-    /// Closes the round with a price rule, or gives it back as it was.
+    /// Closes the round with a price rule, or gives it back as it was with a refusal of code 10.
     pub fn close<P: PriceRule>(self, rule: &mut P) -> Result<ClosedRound, (OpenRound, Refusal)>
         ensures served { Serves (of_open self) (Close (P.PriceRule.meaning rule.old)) (gave_closing result) }
         ensures same_rule { P.PriceRule.meaning rule.new ≡ P.PriceRule.meaning rule.old }

@@ -1,9 +1,7 @@
 //! Whole runs of requests, from an open and vacant round.
-ghost use Rattle.std.specs.Prelude.{◌≡◌, map, IfOk};
-ghost use Rattle.offers.specs.Memory.{entries_in};
-ghost use Rattle.rounds.specs.Model.{stage_in};
-ghost use Rattle.rounds.specs.Requests.{of_round, call_of};
-ghost use Rattle.rounds.specs.Replays.{of_stage, Replays};
+ghost use Rattle.std.specs.Prelude.{map, IfOk};
+ghost use Rattle.rounds.specs.Requests.{call_of};
+ghost use Rattle.rounds.specs.Replays.{Replays};
 
 use crate::open_round::OpenRound;
 use crate::requests::{Reply, Request, Round, serve};
@@ -34,30 +32,6 @@ pub struct Moment {
 pub struct Run {
     pub round: Round,
     pub moments: Vec<Moment>,
-}
-
-impl Round {
-    /// What the round holds.
-    pub fn offers(&self) -> Offers
-        ensures { entries_in result ≡ (of_round self.now).entries }
-    {
-        match self {
-            Round::Open(round) => round.offers,
-            Round::Closed(round) => round.offers,
-            Round::Awarded(round) => round.offers,
-        }
-    }
-
-    /// Where it stands.
-    pub fn stage(&self) -> Stage
-        ensures { of_stage result ≡ stage_in (of_round self.now).state }
-    {
-        match self {
-            Round::Open(_) => Stage::Open,
-            Round::Closed(round) => Stage::Closed(round.at),
-            Round::Awarded(round) => Stage::Awarded(round.at),
-        }
-    }
 }
 
 /// Who wants to know how far a run is; `()` wants to know nothing.

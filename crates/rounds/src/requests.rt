@@ -7,8 +7,9 @@ ghost use Rattle.rounds.specs.Views.{of_open, of_closed, of_awarded, Serves};
 use crate::awarded_round::{Award, AwardedRound};
 use crate::closed_round::{ClosedRound, Searched};
 use crate::open_round::OpenRound;
+use crate::replays::Stage;
 use bounds::BoundingRule;
-use offers::{Kind, Offer, Refusal};
+use offers::{Kind, Offer, Offers, Refusal};
 use pricing::PriceRule;
 
 /// A round in any state.
@@ -17,6 +18,34 @@ pub enum Round {
     Open(OpenRound),
     Closed(ClosedRound),
     Awarded(AwardedRound),
+}
+
+impl Round {
+    ghost use Rattle.offers.specs.Memory.{entries_in};
+    ghost use Rattle.rounds.specs.Model.{stage_in};
+    ghost use Rattle.rounds.specs.Replays.{of_stage};
+
+    /// What the round holds.
+    pub fn offers(&self) -> Offers
+        ensures { entries_in result ≡ (of_round self.now).entries }
+    {
+        match self {
+            Round::Open(round) => round.offers,
+            Round::Closed(round) => round.offers,
+            Round::Awarded(round) => round.offers,
+        }
+    }
+
+    /// Where it stands.
+    pub fn stage(&self) -> Stage
+        ensures { of_stage result ≡ stage_in (of_round self.now).state }
+    {
+        match self {
+            Round::Open(_) => Stage::Open,
+            Round::Closed(round) => Stage::Closed(round.at),
+            Round::Awarded(round) => Stage::Awarded(round.at),
+        }
+    }
 }
 
 /// What a caller asks, with the rules and buffers for it.

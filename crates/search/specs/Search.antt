@@ -17,7 +17,8 @@ pub record Standing : Type 0 where
   pub leader : ℕ
   pub surplus : ℤ
 
--- a number that falls with each step: more choices are settled, or the next block is half as long
+-- a number that falls with each step: more choices are settled, which are fewer than 2 ^ 41, or the next block is half as long, which
+-- has fewer than 64 free digits
 abbrev pub work_left : Standing → ℕ
 work_left at = (2 ^ 41 - at.settled) * 64 + at.free
 
@@ -30,10 +31,11 @@ pub record Placed (v : View) (at : Standing) : Type 0 where
   -- some choices are settled, and at most all
   pub some : 1 ≤ at.settled
   pub most : at.settled ≤ choices v
-  -- while one is not, the next block is one of the docket's
+  -- while a choice is unsettled, the next block is a block of the docket
   pub block : at.settled < choices v → InDocket v (next_block at)
 
--- The leader is the best lawful choice among those numbered below a bound, whatever sales the others are given, the earliest among equals.
+-- The leader is the best lawful choice among those numbered below a bound, whatever sales the others are given, and the earliest of
+-- equals.
 pub record Leading (v : View) (bound : ℕ) (at : Standing) : Type 0 where
   pub best : BestBelow v bound at.leader
   -- and its surplus is known: what it earns with filled sales, less its prices

@@ -58,8 +58,7 @@ impl Position {
         self
     }
 
-    /// The block is settled. This and two calls below ask for a search that is not finished: a finished one is a position too, so
-    /// no invariant says it.
+    /// The block is settled.
     pub(crate) fn skip(self) -> Position
         requires { self.settled < 2 ^ 40 }
         ensures falls { work_left result < work_left self }

@@ -20,6 +20,10 @@ use Rattle.sheets.specs.declared.fields.Status.TheVariants as status
 abbrev pub content_size : {R : Type 0} → Layout R → ℕ
 content_size k = size_of k + 2
 
+-- the bytes of a header: tag and two of length
+abbrev pub HEADER : ℕ
+HEADER = 3
+
 -- A field with its header taken off.
 pub record SheetField : Type 0 where
   pub kind : Kind

@@ -21,11 +21,12 @@ is_withdrawn (Withdrawn r) = true
 abbrev pub withdrawn_at : Entries → Kind → ℕ → Bool
 withdrawn_at all k i = is_withdrawn (slice_index_or (entries_of all k) i Vacant)
 
--- the fields of a sheet, as far as their headers are in order
+-- a field taken off a sheet, and then those of the rest; none once a header is not in order
 abbrev pub after_split : Result SheetField Refusal → (List ℕ → List SheetField) → List SheetField
 after_split (Ok p) rest = p ∷ rest p.rest
 after_split (Err e) rest = []
 
+-- the fields of a sheet, as far as their headers are in order; its length is turns enough
 abbrev pub fields_from : ℕ → List ℕ → List SheetField
 fields_from zero bs = []
 fields_from (suc turns) [] = []
@@ -63,6 +64,8 @@ pub record Faithful (all : Entries) : Type 0 where
   -- the round's own sheet changes nothing
   pub own : catch_up all (sheet_of all) ≡ Ok all
   -- two rounds that each accept the other's sheet hold the same entries afterwards
-  pub agree : (other mine theirs : Entries) → Sound other → catch_up all (sheet_of other) ≡ Ok mine → catch_up other (sheet_of all) ≡ Ok theirs → mine ≡ theirs
+  pub agree : (other mine theirs : Entries) → Sound other → catch_up all (sheet_of other) ≡ Ok mine
+      → catch_up other (sheet_of all) ≡ Ok theirs → mine ≡ theirs
   -- and so they do where one catches up first and its new sheet goes to the other
-  pub in_turn : (other mine : Entries) → Sound other → catch_up all (sheet_of other) ≡ Ok mine → catch_up other (sheet_of mine) ≡ Ok mine
+  pub in_turn : (other mine : Entries) → Sound other → catch_up all (sheet_of other) ≡ Ok mine
+      → catch_up other (sheet_of mine) ≡ Ok mine

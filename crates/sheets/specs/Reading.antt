@@ -4,7 +4,7 @@ use Rattle.offers.specs.declared.refusals.Refusal.{Refusal}
 use Rattle.offers.specs.Registers.{Outcome}
 use Rattle.offers.specs.Memory.{Entries, layout_of, entries_of, with_entries}
 use Rattle.sheets.specs.declared.fields.Cursor.{Cursor}
-use Rattle.sheets.specs.Fields.{SheetField, split_field, Entering, enter_content}
+use Rattle.sheets.specs.Fields.{SheetField, split_field, Entering, enter_content, HEADER}
 
 -- a field taken into the entries of all kinds
 abbrev pub enter_field : Entries → Cursor → SheetField → Entering Entries
@@ -16,7 +16,7 @@ enter_field all cursor p = record {
 -- how far a reader has come after a field with this number
 abbrev pub after_field : Cursor → SheetField → ℕ → Cursor
 after_field cursor p number = record {
-  next_byte = cursor.next_byte + 3 + length p.content;
+  next_byte = cursor.next_byte + HEADER + length p.content;
   last_tag = (layout_of p.kind).tag;
   last_number = number;
 }

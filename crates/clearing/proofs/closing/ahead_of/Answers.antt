@@ -7,7 +7,7 @@ use Rattle.clearing.specs.Bands.{Numbered}
 use Rattle.clearing.proofs.Fits.{open_fits, band_ranges}
 use Rattle.clearing.proofs.Openings.{ahead_open, ahead_shut, ahead_by_place}
 use Rattle.clearing.proofs.closing.ahead_of.Goals as goal
-use Rattle.clearing.proofs.closing.ahead_of.Goals.{in-Open+then-comes_ahead, in-Open+else-comes_ahead, in_default}
+use Rattle.clearing.proofs.closing.ahead_of.Goals.{in-Open+then-ahead_by, in-Open+else-ahead_by, in_default}
 
 pub loop-i-preserved : goal.loop-i-preserved
 loop-i-preserved c =
@@ -16,16 +16,16 @@ loop-i-preserved c =
     let band : Numbered Band = record { number = c.args.at + 1; terms = c.args.band.now } in
     let inside : i < length es = omega arith in
     elim c.match-entry.branch [
-      | in-Open+then-comes_ahead w ↦
+      | in-Open+then-ahead_by w ↦
           let other = w.in-Open.other in
           let ranges = band_ranges other (open_fits band_layout es i other c.args.ledger.now.in_range w.in-Open.is) in
-          let first = ahead_by_place other c.args.band.now i c.args.at ∙ sym w.if-comes_ahead.ensures in
+          let first = ahead_by_place other c.args.band.now i c.args.at ∙ sym w.if-ahead_by.ensures in
           let more = ahead_open es i band inside other w.in-Open.is in
           let counted = cond-true _ other.quantity 0 first in
           (omega (arith, w.ahead-is, c.loop-i.invariant.0), omega (arith, w.ahead-is))
-      | in-Open+else-comes_ahead w ↦
+      | in-Open+else-ahead_by w ↦
           let other = w.in-Open.other in
-          let later = ahead_by_place other c.args.band.now i c.args.at ∙ sym w.if-comes_ahead.ensures in
+          let later = ahead_by_place other c.args.band.now i c.args.at ∙ sym w.if-ahead_by.ensures in
           let more = ahead_open es i band inside other w.in-Open.is in
           let counted = cond-false _ other.quantity 0 later in
           (omega (arith, w.ahead-is, c.loop-i.invariant.0), omega (arith, w.ahead-is))

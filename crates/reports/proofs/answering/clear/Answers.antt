@@ -2,7 +2,7 @@
 use Rattle.std.proofs.Common.{◌≡◌, Ok, Result, sym, ap, ◌∙◌, subst}
 use Rattle.offers.specs.declared.refusals.Refusal.{Refusal}
 use Rattle.pricing.specs.Prices.{filed_price}
-use Rattle.rounds.specs.Model.{CatchUp, Close, Done, Model, step}
+use Rattle.rounds.specs.Model.{CatchUp, Close, Done, PlainRound, step}
 use Rattle.rounds.specs.Views.{of_open, of_closed, of_awarded, gave, gave_closing, Finishes}
 use Rattle.reports.specs.Searching.{searching}
 use Rattle.reports.proofs.Calls.{both_answered, both_left}
@@ -18,6 +18,6 @@ returns-in-Ok g c =
     record {
       accepted = both_answered before first second (CatchUp c.args.sheet.now) (Close filed_price) (Done (Ok tt)) (Done (Ok tt)) read shut;
       finished =
-          subst (λ (m : Model). Finishes m (searching c.args.rules) (of_awarded c.finish.result))
+          subst (λ (m : PlainRound). Finishes m (searching c.args.rules) (of_awarded c.finish.result))
           (sym (both_left before first second (CatchUp c.args.sheet.now) (Close filed_price) (Done (Ok tt)) (Done (Ok tt)) read shut)) c.finish.ensures.finishes;
     }

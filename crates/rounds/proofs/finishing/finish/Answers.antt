@@ -1,19 +1,19 @@
 -- `finish`: one search more.
 use Rattle.std.proofs.Common.{◌≡◌, ℕ, zero, suc, replicate, sym, refl, ap, ◌∙◌, subst}
 use Rattle.rounds.specs.declared.closed_round.Searched.{Searched}
-use Rattle.rounds.specs.Model.{Call, Model, Stepped, Search, Found, step, after_from}
+use Rattle.rounds.specs.Model.{Call, PlainRound, Stepped, Search, Found, step, after_from}
 use Rattle.rounds.specs.Views.{of_closed, of_awarded, of_searched, gave, Falls}
 use Rattle.rounds.proofs.Kept.{promised_again}
 use Rattle.rounds.proofs.finishing.finish.Goals as goal
 
 -- the same call once more
-again : (m : Model) (call : Call) (n : ℕ) → after_from m (replicate (suc n) call) ≡ (step (after_from m (replicate n call)) call).after
+again : (m : PlainRound) (call : Call) (n : ℕ) → after_from m (replicate (suc n) call) ≡ (step (after_from m (replicate n call)) call).after
 again m call zero = refl
 again m call (suc n) = again (step m call).after call n
 
-once_more : (m at left : Model) (call : Call) (s : Stepped) → (n : ℕ) × (at ≡ after_from m (replicate n call)) → s ≡ step at call → left ≡ s.after → (n : ℕ) × (left ≡ after_from m (replicate n call))
+once_more : (m at left : PlainRound) (call : Call) (s : Stepped) → (n : ℕ) × (at ≡ after_from m (replicate n call)) → s ≡ step at call → left ≡ s.after → (n : ℕ) × (left ≡ after_from m (replicate n call))
 once_more m at left call s led e l =
-    (suc led.0, l ∙ ap (λ (x : Stepped). x.after) e ∙ ap (λ (x : Model). (step x call).after) led.1 ∙ sym (again m call led.0))
+    (suc led.0, l ∙ ap (λ (x : Stepped). x.after) e ∙ ap (λ (x : PlainRound). (step x call).after) led.1 ∙ sym (again m call led.0))
 
 pub turns-init : goal.turns-init
 turns-init g c = record { led = (0, refl); same_rule = refl }

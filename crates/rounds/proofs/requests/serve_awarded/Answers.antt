@@ -3,13 +3,13 @@ use Rattle.std.proofs.Common.{◌≡◌, ℕ, List, ◌++◌, length, take, drop
 use Rattle.std.proofs.lemmas.Grind.{common_steps}
 use Rattle.offers.specs.declared.refusals.Refusal.{Refusal}
 use Rattle.rounds.specs.declared.awarded_round.Award.{Award}
-use Rattle.rounds.specs.Model.{Call, Model, ReadAward, Awarded, step}
+use Rattle.rounds.specs.Model.{Call, PlainRound, ReadAward, Awarded, step}
 use Rattle.rounds.specs.Requests.{call_of}
 use Rattle.rounds.specs.Views.{of_awarded, gave}
 use Rattle.rounds.proofs.requests.serve_awarded.Goals as goal
 
 -- a row that is read back as the call left it is the model's
-as_left : (m : Model) (call : Call) (r : Result Award Refusal) (lent before now row : List ℕ) → now ≡ row → before ≡ lent → call ≡ ReadAward lent
+as_left : (m : PlainRound) (call : Call) (r : Result Award Refusal) (lent before now row : List ℕ) → now ≡ row → before ≡ lent → call ≡ ReadAward lent
     → gave m (Awarded r row) ≡ step m (ReadAward before) → gave m (Awarded r now) ≡ step m call
 as_left m call r lent before now row same was is e =
     ap (λ (xs : List ℕ). gave m (Awarded r xs)) same ∙ e ∙ ap (λ (xs : List ℕ). step m (ReadAward xs)) was ∙ sym (ap (step m) is)
