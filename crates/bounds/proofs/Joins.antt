@@ -9,13 +9,13 @@ use Rattle.offers.specs.declared.records.Exclusion.{Exclusion}
 use Rattle.offers.specs.declared.records.Limit.{Limit}
 use Rattle.offers.specs.Tables.{pair_layout, exclusion_layout}
 use Rattle.clearing.specs.declared.dockets.PricedPackage.{PricedPackage}
-use Rattle.clearing.specs.declared.dockets.Docket.{Docket}
 use Rattle.clearing.specs.declared.tallies.Tally.{Tally}
 use Rattle.clearing.specs.Choices.{nameplates, exports, has_number}
 use Rattle.clearing.specs.Judging.{pairs_kept, exclusions_kept, zones_kept}
-use Rattle.clearing.specs.Lawful.{view}
 use Rattle.clearing.specs.Ranges.{fits, package_fits}
 use Rattle.clearing.specs.Tallies.{row, tally_of}
+use Rattle.clearing.specs.Lawful.{View}
+use Rattle.clearing.specs.Ranged.{Ranged}
 use Rattle.clearing.proofs.Fits.{each-most, pair_ranges, ExclusionRanges, exclusion_ranges, PackageRanges, priced_ranges}
 use Rattle.clearing.proofs.Held.{no_exclusion}
 use Rattle.clearing.proofs.Judged.{pairs_tell, exclusions_tell, zones_tell}
@@ -250,7 +250,7 @@ module _ (T : List PricedPackage) (t : Tally) (counted : t ≡ tally_of T) (boun
 test-at : (f : ℕ → Bool) (n : ℕ) → n ≤ 40 → get_or (row f 0 41) n false ≡ f n
 test-at f n few = getD_row f 0 41 n false (omega arith) ∙ ap f (zero-add n)
 
-module _ (d : Docket) (T W : List PricedPackage) where
+module _ {d : View} (ok : Ranged d) (T W : List PricedPackage) where
   -- do the others keep the rules?
   abbrev pub keep : Bool
   keep =
@@ -266,19 +266,19 @@ module _ (d : Docket) (T W : List PricedPackage) where
 
   -- where the others keep the rules, that is whether it could be taken with them
   pub joins-passed : (t w : Tally) → t ≡ tally_of T → w ≡ tally_of W → Bounded 400000000 t → keep ≡ true → (p : PricedPackage) → package_fits p ≡ true
-      → passed t w p ≡ joins (view d) T W p
+      → passed t w p ≡ joins d T W p
   joins-passed t w counted others bounded kept p fits =
       let r = priced_ranges p fits in
       let one = and_parts (pairs_kept d.pairs T W) _ kept in
       let two = and_parts (exclusions_kept d.exclusions T) (zones_kept d.limits T) one.1 in
       ap₂ (λ a b. a && b)
-      (test-at (cleared (λ (q : Pair). q.dependent) (needs w.takes) d.pairs) p.number r.number ∙ pairs-joined T p W w others d.pairs d.pairs_fit one.0)
+      (test-at (cleared (λ (q : Pair). q.dependent) (needs w.takes) d.pairs) p.number r.number ∙ pairs-joined T p W w others d.pairs ok.pairs one.0)
       (ap₂ (λ a b. a && b)
-      (test-at (cleared (λ (e : Exclusion). e.member) (unopposed (row (head t.takes d.exclusions) 1 16)) d.exclusions) p.number r.number ∙ groups-joined T t counted d.exclusions d.exclusions_fit two.0 p)
+      (test-at (cleared (λ (e : Exclusion). e.member) (unopposed (row (head t.takes d.exclusions) 1 16)) d.exclusions) p.number r.number ∙ groups-joined T t counted d.exclusions ok.exclusions two.0 p)
       (zones-joined T t counted bounded d.limits two.1 p r.of_record))
 
   -- where a package could be taken with them, they do
-  joins-keep : (p : PricedPackage) → joins (view d) T W p ≡ true → keep ≡ true
+  joins-keep : (p : PricedPackage) → joins d T W p ≡ true → keep ≡ true
   joins-keep p joined =
       let pairs = d.pairs in
       let xs = d.exclusions in
@@ -292,8 +292,8 @@ module _ (d : Docket) (T W : List PricedPackage) where
       ((zones_tell ls T).1 (All-weaker _ _ (λ l rule. ((λ is. omega (arith, rule.0 is)), (λ is. omega (arith, rule.1 is)))) ls ((zones_tell ls (p ∷ T)).0 two.1))))
 
   -- so where they do not, none could
-  pub none-joins : keep ≡ false → (ps : List PricedPackage) → filter (joins (view d) T W) ps ≡ []
+  pub none-joins : keep ≡ false → (ps : List PricedPackage) → filter (joins d T W) ps ≡ []
   none-joins fails [] = refl
   none-joins fails (p ∷ ps) =
-      let no-one : joins (view d) T W p ≡ false = ⊎_elim (λ joined. absurd (both_ways _ fails (joins-keep p joined))) (λ fine. fine) (cases_Bool (joins (view d) T W p)) in
-      cond-false (joins (view d) T W p) _ _ no-one ∙ none-joins fails ps
+      let no-one : joins d T W p ≡ false = ⊎_elim (λ joined. absurd (both_ways _ fails (joins-keep p joined))) (λ fine. fine) (cases_Bool (joins d T W p)) in
+      cond-false (joins d T W p) _ _ no-one ∙ none-joins fails ps

@@ -1,6 +1,5 @@
 //! A cap by taking all that is free: its income whole, and of its prices only those that are negative.
 ghost use Rattle.std.specs.Prelude.{◌≡◌, pos, ◌≤ℤ◌, neg_ℤ};
-ghost use Rattle.clearing.specs.Lawful.{view};
 ghost use Rattle.bounds.specs.Rules.{all_in, costs_at_least};
 ghost use Rattle.clearing.proofs.ClosedRanges.{ranged-closing};
 ghost use Rattle.bounds.specs.Laws.AllIn.{all_in-sound};
@@ -26,7 +25,7 @@ impl BoundingRule for AllIn {
 
 // The prices of the taken packages, and of the free ones those below 0, in pesos.
 fn least_cost(docket: &Docket, block: Block) -> i64
-    ensures value { result ≡ costs_at_least (view docket.now) block }
+    ensures value { result ≡ costs_at_least docket.now block }
     ensures low { neg_ℤ (pos 1600000000000) ≤ℤ result }
     ensures high { result ≤ℤ pos 800000000000 }
 {

@@ -40,13 +40,12 @@ pub const CEILING: i64 = 100_000_000_000_000_000;
 /// choice in the block, or `None`: there is no lawful choice in it. It may keep what it worked out, but not change its
 /// meaning.
 pub trait BoundingRule {
-    ghost use Rattle.clearing.specs.Lawful.{view};
     ghost use Rattle.bounds.specs.Blocks.{Answers, SoundRule, InDocket};
 
     ghost answers: { Self → Answers };
 
     fn consult(&mut self, docket: &Docket, block: Block) -> Option<i64>
-        ensures answer { InDocket (view docket.now) block → result ≡ answers self.old (view docket.now) block }
+        ensures answer { InDocket docket.now block → result ≡ answers self.old docket.now block }
         ensures same { answers self.new ≡ answers self.old };
 
     ghost sound: { (s : Self) → SoundRule (answers s) };

@@ -1,5 +1,5 @@
 //! No choice of a block is lawful where the packages that it takes for certain break a rule already.
-ghost use Rattle.clearing.specs.Lawful.{view};
+ghost use Rattle.clearing.specs.Ranged.{Ranged};
 ghost use Rattle.bounds.specs.Live.{TestsStand};
 ghost use Rattle.bounds.specs.Rules.{limits_kept};
 ghost use Rattle.clearing.proofs.ClosedRanges.{ranged-closing};
@@ -30,7 +30,8 @@ impl BoundingRule for Limits {
 
 /// Whether taken packages keep the rules that taking more of the possible ones does not mend.
 pub(crate) fn stands(docket: &Docket, tally: &Tally, possible: &Tally) -> bool
-    ensures { TestsStand (view docket.now) tally.now possible.now result }
+    requires { Ranged docket.now }
+    ensures { TestsStand docket.now tally.now possible.now result }
 {
     pairs_kept(docket, tally, possible)
         && exclusions_kept(docket, tally)

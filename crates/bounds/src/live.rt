@@ -2,7 +2,6 @@
 ghost use Rattle.std.specs.Prelude.{◌≡◌, true};
 ghost use Rattle.offers.specs.Marks.{sort_byte};
 ghost use Rattle.offers.specs.Tables.{package_layout};
-ghost use Rattle.clearing.specs.Lawful.{view};
 ghost use Rattle.clearing.specs.Ranges.{fits, at_most, MOST_SUPPLY};
 ghost use Rattle.clearing.specs.Tallies.{row};
 ghost use Rattle.bounds.specs.Rules.{TakesLive};
@@ -18,7 +17,7 @@ const UNLIMITED: u64 = 1_000_000_000_000;
 
 /// The choice that takes just them.
 pub(crate) fn live_choice(docket: &Docket, block: Block) -> u64
-    ensures { TakesLive (view docket.now) block result }
+    ensures { TakesLive docket.now block result }
 {
     let fixed = Tally::new(docket, block.first);
     let possible = Tally::new(docket, block.last());

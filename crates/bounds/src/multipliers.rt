@@ -3,7 +3,7 @@
 ghost use Rattle.std.specs.Prelude.{◌≡◌, ◌+◌, ◌-◌, ◌/◌, ◌≤◌, true, false, nat_lt, pos, ◌≤ℤ◌, slice_index, slice_index_or, if◌then◌else◌, neg_ℤ};
 ghost use Rattle.offers.specs.Tables.{package_layout};
 ghost use Rattle.clearing.specs.Choices.{taken, supplied, supply};
-ghost use Rattle.clearing.specs.Lawful.{view};
+ghost use Rattle.clearing.specs.Ranged.{Ranged};
 ghost use Rattle.clearing.specs.Ranges.{fits, package_fits, at_most, MOST_SUPPLY};
 ghost use Rattle.clearing.specs.Tallies.{row, plus};
 ghost use Rattle.bounds.specs.Multipliers.{value_at, gain, gainful, asked_above, either, over_asked, price_at, unit_worth, middle, narrowed_in, widest_in, multipliers_in, fixed_supply};
@@ -25,8 +25,8 @@ pub struct Between {
 /// The multipliers of a block, whose fixed packages supply `base`, and where `live` is the choice of those of its free packages that
 /// count.
 pub(crate) fn multipliers(docket: &Docket, block: Block, base: &[u64; 5], live: u64) -> [u32; 5]
-    requires { base.now ≡ fixed_supply (view docket.now) block }
-    ensures value { result ≡ multipliers_in (view docket.now) block live }
+    requires { base.now ≡ fixed_supply docket.now block }
+    ensures value { result ≡ multipliers_in docket.now block live }
     ensures range { at_most 10000000 result ≡ true }
 {
     let mut between = Between::widest(docket, block, base, live);
@@ -39,8 +39,9 @@ pub(crate) fn multipliers(docket: &Docket, block: Block, base: &[u64; 5], live: 
 impl Between {
     // What the first band pays that is not filled by all, and by the fixed alone.
     fn widest(docket: &Docket, block: Block, base: &[u64; 5], live: u64) -> Between
-        requires { base.now ≡ fixed_supply (view docket.now) block }
-        ensures { result ≡ widest_in (view docket.now) block live }
+        requires { base.now ≡ fixed_supply docket.now block }
+        ensures value { result ≡ widest_in docket.now block live }
+        ensures ranged { Ranged docket.now }
     {
         let free = supply_of(docket, live);
         let all = together(base, &free);
@@ -65,8 +66,8 @@ impl Between {
 
     // The half where they are looked for next.
     fn narrowed(self, docket: &Docket, block: Block, base: &[u64; 5], live: u64) -> Between
-        requires { base.now ≡ fixed_supply (view docket.now) block }
-        ensures { result ≡ narrowed_in (view docket.now) block live self }
+        requires { base.now ≡ fixed_supply docket.now block }
+        ensures { result ≡ narrowed_in docket.now block live self }
     {
         let middle = self.middle();
         let worthwhile = supply_of(docket, gainful_choice(docket, &middle, live));

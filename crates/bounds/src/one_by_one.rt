@@ -1,6 +1,5 @@
 //! A cap by what each free package alone would add: together they add no more.
 ghost use Rattle.std.specs.Prelude.{◌≡◌, pos, ◌≤ℤ◌, neg_ℤ};
-ghost use Rattle.clearing.specs.Lawful.{view};
 ghost use Rattle.bounds.specs.Rules.{one_by_one, unlimited};
 ghost use Rattle.clearing.proofs.ClosedRanges.{ranged-closing};
 ghost use Rattle.bounds.specs.Laws.OneByOne.{one_by_one-sound};
@@ -31,7 +30,7 @@ impl BoundingRule for OneByOne {
 
 // The surplus in pesos of a choice with filled sales, lawful or not.
 fn unlimited_surplus(docket: &Docket, choice: u64) -> i64
-    ensures value { result ≡ unlimited (view docket.now) choice }
+    ensures value { result ≡ unlimited docket.now choice }
     ensures low { neg_ℤ (pos 800000000000) ≤ℤ result }
     ensures high { result ≤ℤ pos 64000800000000000 }
 {

@@ -2,7 +2,6 @@
 //! the bands pay.
 ghost use Rattle.std.specs.Prelude.{◌≡◌, ◌≤◌, pos, ◌≤ℤ◌};
 ghost use Rattle.clearing.specs.Choices.{taken};
-ghost use Rattle.clearing.specs.Lawful.{view};
 ghost use Rattle.clearing.specs.Tallies.{tally_of};
 ghost use Rattle.bounds.specs.Rules.{sold_above, gains_above, tangent_by, tangent};
 ghost use Rattle.bounds.specs.Blocks.{fixed};
@@ -40,12 +39,12 @@ pub(crate) fn cap(
     live: u64,
     multipliers: &[u32; 5],
 ) -> i64
-    requires { first.now ≡ tally_of (fixed (view docket.now) block) }
-    ensures { result ≡ tangent_by multipliers.now (taken docket.now.packages live) (view docket.now) block }
+    requires { first.now ≡ tally_of (fixed docket.now block) }
+    ensures { result ≡ tangent_by multipliers.now (taken docket.now.packages live) docket.now block }
 {
+    let free = supply_of(docket, live);
     let sales = sell(docket, &first.supply);
     let surplus = sales.income as i64 - first.cost;
-    let free = supply_of(docket, live);
     let all = together(&first.supply, &free);
     let sold = sold_above(docket, multipliers, &first.supply, &all);
     surplus + sold as i64 + gains_above(docket, multipliers, live)

@@ -22,7 +22,7 @@ use Rattle.clearing.specs.Lawful.{View, nothing_open}
 use Rattle.clearing.specs.Ranges.{fits, package_fits, band_fits}
 use Rattle.clearing.proofs.Fits.{open_fits, within-from, price-from, band_ranges}
 use Rattle.clearing.proofs.Openings.{with_ahead, bands_rise, bands-ahead}
-use Rattle.clearing.proofs.Ranged.{Ranged}
+use Rattle.clearing.specs.Ranged.{Ranged}
 use Rattle.clearing.proofs.Rows.{where_most}
 
 -- an open record in range, with an offer number from 1 to a greatest

@@ -3,7 +3,8 @@ use Rattle.std.proofs.Common.{◌≡◌, ℕ, ◌+◌, ◌-◌, ◌<◌, ◌≤�
 use Rattle.std.proofs.ByRecursion.{All-get_or, All-from_get_or}
 use Rattle.std.proofs.lemmas.Bool.{cases_eq, both_ways}
 use Rattle.offers.specs.declared.records.Exclusion.{Exclusion}
-use Rattle.clearing.specs.declared.dockets.Docket.{Docket}
+use Rattle.clearing.specs.Lawful.{View}
+use Rattle.clearing.specs.Ranged.{Ranged}
 use Rattle.clearing.specs.Kept.{In, ExclusionsKept}
 use Rattle.clearing.proofs.Fits.{ExclusionRanges}
 use Rattle.clearing.proofs.Held.{no_exclusion, exclusion_held}
@@ -31,10 +32,10 @@ pub record Firsts (xs : List Exclusion) (taken : List Bool) (i : ℕ) (first : L
 pub one_member : (a b : ℕ) → Some a ≡ Some b → a ≡ b
 one_member a b e = cc
 
-module _ (d : Docket) (xs : List Exclusion) (held : xs ≡ d.exclusions) (taken : List Bool) where
+module _ {d : View} (ok : Ranged d) (xs : List Exclusion) (held : xs ≡ d.exclusions) (taken : List Bool) where
   -- the exclusion at a place is in range
   ranged : (k : ℕ) → k < length xs → ExclusionRanges (get_or xs k no_exclusion)
-  ranged k h = exclusion_held d k xs held h
+  ranged k h = exclusion_held ok k xs held h
 
   -- where each stands for its group, no two of a group differ
   pub firsts_all : (i : ℕ) (first : List (Option ℕ)) → length xs ≤ i → Firsts xs taken i first → ExclusionsKept xs taken

@@ -13,7 +13,8 @@ use Rattle.clearing.specs.Sales.{filled}
 use Rattle.clearing.specs.Tallies.{row}
 use Rattle.clearing.proofs.Fits.{OpenRanges, open_ranges}
 use Rattle.clearing.proofs.FillingSums.{where_same, times_least, all_of, all_both, all_maps, total-same, total-map, row_getD, over, over-map, over_none, over-plus, sold_where, wanted, within-wanted}
-use Rattle.clearing.proofs.FillingOrder.{InOrder, at_least, at_least-front, share, front-filled}
+use Rattle.clearing.specs.Ranged.{InOrder}
+use Rattle.clearing.proofs.FillingOrder.{at_least, at_least-front, share, front-filled}
 
 -- the fields of bands in range
 pub ranges_of : (bs : List OpenBand) → list_all band_fits bs ≡ true → Every OpenRanges bs

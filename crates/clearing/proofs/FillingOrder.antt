@@ -5,15 +5,9 @@ use Rattle.std.proofs.ByRecursion.{All-weaker}
 use Rattle.std.proofs.lemmas.Bool.{and_parts, ltb-true, cases_Bool}
 use Rattle.std.proofs.lemmas.Bool.Decides.{nat_tests}
 use Rattle.clearing.specs.declared.dockets.OpenBand.{OpenBand}
-use Rattle.clearing.specs.Bands.{offered, comes_ahead, rises_from, rising, aheads, true_aheads}
+use Rattle.clearing.specs.Bands.{offered, comes_ahead, rises_from}
 use Rattle.clearing.specs.Choices.{total}
-use Rattle.clearing.specs.Lawful.{View}
 use Rattle.clearing.proofs.FillingSums.{all_of, total-same, total-pairs, total-less, wanted}
-
--- a docket's bands as a closing makes them: by rising number, each with what stands ahead of it
-pub record InOrder (v : View) : Type 0 where
-  pub numbers : rising v.bands ≡ true
-  pub ahead : aheads v.bands ≡ true_aheads v.bands
 
 -- a band is served before another
 abbrev pub comes : OpenBand → OpenBand → Bool

@@ -5,7 +5,8 @@ use Rattle.offers.specs.declared.records.Limit.{Limit}
 use Rattle.offers.specs.Tables.{exclusion_layout, limit_layout}
 use Rattle.clearing.specs.declared.dockets.PricedPackage.{PricedPackage}
 use Rattle.clearing.specs.declared.dockets.OpenBand.{OpenBand}
-use Rattle.clearing.specs.declared.dockets.Docket.{Docket}
+use Rattle.clearing.specs.Lawful.{View}
+use Rattle.clearing.specs.Ranged.{Ranged}
 use Rattle.clearing.specs.Ranges.{fits, band_fits}
 use Rattle.clearing.proofs.Fits.{each_getD, ExclusionRanges, exclusion_ranges, LimitRanges, limit_ranges, OpenRanges, open_ranges}
 
@@ -39,10 +40,10 @@ no_exclusion = record { group = 0; member = 0 }
 abbrev pub no_limit : Limit
 no_limit = record { sort = 0; zone = 0; amount = 0 }
 
-module _ (d : Docket) (i : ℕ) where
+module _ {d : View} (ok : Ranged d) (i : ℕ) where
   -- a band that a docket holds is in range
   pub band_held : (bs : List OpenBand) → bs ≡ d.bands → i < length bs → band_fits (get_or bs i no_band) ≡ true
-  band_held bs e h = each_getD band_fits bs i no_band h (rw e d.bands_fit)
+  band_held bs e h = each_getD band_fits bs i no_band h (rw e ok.bands)
 
   -- with its fields
   pub band_ranged : (bs : List OpenBand) → bs ≡ d.bands → i < length bs → OpenRanges (get_or bs i no_band)
@@ -51,11 +52,11 @@ module _ (d : Docket) (i : ℕ) where
   -- an exclusion that it holds, with its fields
   pub exclusion_held : (xs : List Exclusion) → xs ≡ d.exclusions → i < length xs → ExclusionRanges (get_or xs i no_exclusion)
   exclusion_held xs e h =
-      exclusion_ranges (get_or xs i no_exclusion) (each_getD (fits exclusion_layout) xs i no_exclusion h (rw e d.exclusions_fit))
+      exclusion_ranges (get_or xs i no_exclusion) (each_getD (fits exclusion_layout) xs i no_exclusion h (rw e ok.exclusions))
 
   -- a limit that it holds
   pub limit_held : (ls : List Limit) → ls ≡ d.limits → i < length ls → fits limit_layout (get_or ls i no_limit) ≡ true
-  limit_held ls e h = each_getD (fits limit_layout) ls i no_limit h (rw e d.limits_fit)
+  limit_held ls e h = each_getD (fits limit_layout) ls i no_limit h (rw e ok.limits)
 
   -- with its fields
   pub limit_ranged : (ls : List Limit) → ls ≡ d.limits → i < length ls → LimitRanges (get_or ls i no_limit)

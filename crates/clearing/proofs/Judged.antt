@@ -9,18 +9,17 @@ use Rattle.offers.specs.declared.records.Exclusion.{Exclusion}
 use Rattle.offers.specs.declared.records.Limit.{Limit}
 use Rattle.offers.specs.Tables.{pair_layout, exclusion_layout, limit_layout}
 use Rattle.clearing.specs.declared.dockets.PricedPackage.{PricedPackage}
-use Rattle.clearing.specs.declared.dockets.Docket.{Docket}
 use Rattle.clearing.specs.declared.tallies.Tally.{Tally}
 use Rattle.clearing.specs.declared.sales.Sales.{Sales}
 use Rattle.clearing.specs.Choices.{taken, supply, dated, nameplates, exports, has_number}
 use Rattle.clearing.specs.Judging.{pairs_kept, exclusions_kept, zones_kept, share_kept, dates_kept, passes, worth_of}
-use Rattle.clearing.specs.Lawful.{View, view, sold, percentage, Lawful, Worth, filled_sales}
+use Rattle.clearing.specs.Lawful.{View, sold, percentage, Lawful, Worth, filled_sales}
 use Rattle.clearing.specs.Kept.{PairsKept, ExclusionsKept, ZonesKept, DatesKept}
 use Rattle.clearing.specs.Ranges.{fits}
 use Rattle.clearing.specs.Sales.{sales_of}
 use Rattle.clearing.specs.Tallies.{row, tally_of}
 use Rattle.clearing.proofs.Filling.{best-filled, filled_small, filled_within}
-use Rattle.clearing.proofs.Ranged.{Ranged}
+use Rattle.clearing.specs.Ranged.{Ranged}
 use Rattle.clearing.proofs.Ruled.{share-same}
 use Rattle.clearing.proofs.Tested.{implies_decides, itself, decides_leb, of_three}
 use Rattle.clearing.proofs.RowRules.{all_both, pairs-same, exclusions-same, zones-same}
@@ -85,30 +84,30 @@ dates_tell v T sales =
     (Decides-and _ _ (share_tells v T sales 3 1 5) (share_tells v T sales 4 2 5))
 
 -- tested over the sums of packages, and over what another choice sells, they are those of the packages
-pub dates-tested : (d : Docket) (T : List PricedPackage) (t : Tally) → t ≡ tally_of T → (choice : ℕ) (u : Tally) (s : Sales)
+pub dates-tested : {d : View} → Ranged d → (T : List PricedPackage) (t : Tally) → t ≡ tally_of T → (choice : ℕ) (u : Tally) (s : Sales)
     → u ≡ tally_of (taken d.packages choice) → s ≡ sales_of d.bands u.supply
-    → (r : Bool) → Decides r (DatesKept d.limits t s.sold) → r ≡ dates_kept (view d) T (filled_sales (view d) choice)
-dates-tested d T t counted choice u s others filled-so r decides =
+    → (r : Bool) → Decides r (DatesKept d.limits t s.sold) → r ≡ dates_kept d T (filled_sales d choice)
+dates-tested {d} ok T t counted choice u s others filled-so r decides =
     let percent = percentage d.limits in
-    let sales = filled_sales (view d) choice in
-    let before = λ (zone m : ℕ) (low : 1 ≤ m) (high : m ≤ 5). share-same d choice u s others filled-so t.before (λ m. dated 1 m T) (percent zone) m (ap (λ t. t.before) counted) low high in
-    let after = λ (zone m : ℕ) (low : 1 ≤ m) (high : m ≤ 5). share-same d choice u s others filled-so t.after (λ m. dated 2 m T) (percent zone) m (ap (λ t. t.after) counted) low high in
+    let sales = filled_sales d choice in
+    let before = λ (zone m : ℕ) (low : 1 ≤ m) (high : m ≤ 5). share-same ok choice u s others filled-so t.before (λ m. dated 1 m T) (percent zone) m (ap (λ t. t.before) counted) low high in
+    let after = λ (zone m : ℕ) (low : 1 ≤ m) (high : m ≤ 5). share-same ok choice u s others filled-so t.after (λ m. dated 2 m T) (percent zone) m (ap (λ t. t.after) counted) low high in
     same_from_decides r _
     (Decides-like r
     (λ kept.
-    let power : (m : ℕ) → 1 ≤ m → m ≤ 3 → Shared (view d) T sales 1 1 m × Shared (view d) T sales 2 2 m =
+    let power : (m : ℕ) → 1 ≤ m → m ≤ 3 → Shared d T sales 1 1 m × Shared d T sales 2 2 m =
     λ m low high. ((before 1 m low (omega arith)).0 (kept.power_before m low high), (after 2 m low (omega arith)).0 (kept.power_after m low high)) in (
       (power 1 (omega arith) (omega arith), (power 2 (omega arith) (omega arith), (power 3 (omega arith) (omega arith), tt))),
       ((before 3 5 (omega arith) (omega arith)).0 kept.certificates_before, (after 4 5 (omega arith) (omega arith)).0 kept.certificates_after),
     ))
     (λ dates. record {
-      power_before = λ m low high. (before 1 m low (omega arith)).1 (of_three (Shared (view d) T sales 1 1) dates.0.0.0 dates.0.1.0.0 dates.0.1.1.0.0 m low high);
-      power_after = λ m low high. (after 2 m low (omega arith)).1 (of_three (Shared (view d) T sales 2 2) dates.0.0.1 dates.0.1.0.1 dates.0.1.1.0.1 m low high);
+      power_before = λ m low high. (before 1 m low (omega arith)).1 (of_three (Shared d T sales 1 1) dates.0.0.0 dates.0.1.0.0 dates.0.1.1.0.0 m low high);
+      power_after = λ m low high. (after 2 m low (omega arith)).1 (of_three (Shared d T sales 2 2) dates.0.0.1 dates.0.1.0.1 dates.0.1.1.0.1 m low high);
       certificates_before = (before 3 5 (omega arith) (omega arith)).1 dates.1.0;
       certificates_after = (after 4 5 (omega arith) (omega arith)).1 dates.1.1;
     })
     decides)
-    (dates_tell (view d) T sales)
+    (dates_tell d T sales)
 
 -- the tests decide whether a choice is lawful with the filled sales, which are within quantities and supply
 pub passes_tell : (v : View) → Ranged v → (choice : ℕ) → Decides (passes v (taken v.packages choice) (filled_sales v choice)) (Lawful v choice (filled_sales v choice))

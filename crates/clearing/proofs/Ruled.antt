@@ -3,12 +3,12 @@ use Rattle.std.proofs.Common.{◌≡◌, ℕ, ◌+◌, ◌-◌, ◌*◌, ◌≤�
 use Rattle.std.proofs.lemmas.Int.{ints}
 use Rattle.clearing.specs.declared.dockets.PricedPackage.{PricedPackage}
 use Rattle.clearing.specs.declared.dockets.OpenBand.{OpenBand}
-use Rattle.clearing.specs.declared.dockets.Docket.{Docket}
 use Rattle.clearing.specs.declared.tallies.Tally.{Tally}
 use Rattle.clearing.specs.declared.sales.Sales.{Sales}
 use Rattle.clearing.specs.Choices.{taken, supply, dated}
 use Rattle.clearing.specs.Kept.{Share, PairsKept, ExclusionsKept, ZonesKept, DatesKept}
-use Rattle.clearing.specs.Lawful.{View, view, sold, income, percentage, Lawful, filled_sales}
+use Rattle.clearing.specs.Lawful.{View, sold, income, percentage, Lawful, filled_sales}
+use Rattle.clearing.specs.Ranged.{Ranged}
 use Rattle.clearing.specs.Sales.{filled, sold_in, sales_of}
 use Rattle.clearing.specs.Tallies.{row, tally_of}
 use Rattle.clearing.proofs.Filling.{filled_small}
@@ -30,14 +30,14 @@ pub record Ruled (v : View) (t : Tally) (s : Sales) : Type 0 where
   pub zones : ZonesKept v.limits t.nameplate t.export
   pub dates : DatesKept v.limits t s.sold
 
-module _ (d : Docket) (choice : ℕ) where
+module _ {d : View} (ok : Ranged d) (choice : ℕ) where
   -- what the choice takes
   abbrev chosen : List PricedPackage
   chosen = taken d.packages choice
 
   -- the sales that fill the bands
   abbrev sales : List ℕ
-  sales = filled_sales (view d) choice
+  sales = filled_sales d choice
 
   module _ (t : Tally) (s : Sales) (counted : t ≡ tally_of chosen) (filled-so : s ≡ sales_of d.bands t.supply) where
     -- what is sold in a market stands at its place
@@ -74,15 +74,15 @@ module _ (d : Docket) (choice : ℕ) where
     after_same percent m low high = share-same t.after (λ m. dated 2 m chosen) percent m (ap (λ t. t.after) counted) low high
 
     -- a choice that keeps the rules is lawful with the filled sales, if no market sells more than its supply
-    pub lawful-from : ((m : ℕ) → sold d.bands sales m ≤ supply m chosen) → Ruled (view d) t s → Lawful (view d) choice sales
+    pub lawful-from : ((m : ℕ) → sold d.bands sales m ≤ supply m chosen) → Ruled d t s → Lawful d choice sales
     lawful-from within rules =
-        let zones = (all_both _ _ d.limits).0 ((zones-same chosen t counted d.limits d.limits_fit).0 rules.zones) in
+        let zones = (all_both _ _ d.limits).0 ((zones-same chosen t counted d.limits ok.limits).0 rules.zones) in
         let percent = percentage d.limits in
         record {
           within_quantities = filled_small (row (λ m. supply m chosen) 1 5) d.bands;
           within_supply = within;
-          pairs = (pairs-same chosen t counted chosen t counted d.pairs d.pairs_fit).0 rules.pairs;
-          exclusions = (exclusions-same chosen t counted d.exclusions d.exclusions_fit).0 rules.exclusions;
+          pairs = (pairs-same chosen t counted chosen t counted d.pairs ok.pairs).0 rules.pairs;
+          exclusions = (exclusions-same chosen t counted d.exclusions ok.exclusions).0 rules.exclusions;
           interconnection = zones.0;
           export = zones.1;
           power_before = λ m low high. (before_same (percent 1) m low (omega arith)).0 (rules.dates.power_before m low high);
@@ -92,13 +92,13 @@ module _ (d : Docket) (choice : ℕ) where
         }
 
     -- and a choice that is lawful with them keeps the rules
-    pub ruled_from : Lawful (view d) choice sales → Ruled (view d) t s
+    pub ruled_from : Lawful d choice sales → Ruled d t s
     ruled_from lawful =
         let percent = percentage d.limits in
         record {
-          pairs = (pairs-same chosen t counted chosen t counted d.pairs d.pairs_fit).1 lawful.pairs;
-          exclusions = (exclusions-same chosen t counted d.exclusions d.exclusions_fit).1 lawful.exclusions;
-          zones = (zones-same chosen t counted d.limits d.limits_fit).1 ((all_both _ _ d.limits).1 (lawful.interconnection, lawful.export));
+          pairs = (pairs-same chosen t counted chosen t counted d.pairs ok.pairs).1 lawful.pairs;
+          exclusions = (exclusions-same chosen t counted d.exclusions ok.exclusions).1 lawful.exclusions;
+          zones = (zones-same chosen t counted d.limits ok.limits).1 ((all_both _ _ d.limits).1 (lawful.interconnection, lawful.export));
           dates = record {
             power_before = λ m low high. (before_same (percent 1) m low (omega arith)).1 (lawful.power_before m low high);
             power_after = λ m low high. (after_same (percent 2) m low (omega arith)).1 (lawful.power_after m low high);

@@ -3,8 +3,9 @@ use Rattle.std.specs.List.{list_all}
 use Rattle.std.proofs.Common.{◌≡◌, ℕ, ◌+◌, ◌-◌, ◌*◌, ◌<◌, ◌≤◌, true, eqb, leb, List, [], ◌∷◌, ◌++◌, map, length, get_or, take, set, sym, ap, ◌∙◌, subst, ap₂, mul-le-mul, arith, cond}
 use Rattle.std.proofs.lemmas.List.{length-take, take_more}
 use Rattle.clearing.specs.declared.dockets.OpenBand.{OpenBand}
-use Rattle.clearing.specs.declared.dockets.Docket.{Docket}
 use Rattle.clearing.specs.declared.sales.Sales.{Sales}
+use Rattle.clearing.specs.Lawful.{View}
+use Rattle.clearing.specs.Ranged.{Ranged}
 use Rattle.clearing.specs.Ranges.{band_fits}
 use Rattle.clearing.specs.Sales.{filled, sold_in, sales_of}
 use Rattle.clearing.specs.Tallies.{row}
@@ -63,8 +64,8 @@ module _ (supply : List ℕ) where
   }
 
   -- so with all bands of a docket
-  pub sold_in_all : (d : Docket) → Sold (sales_of d.bands supply)
-  sold_in_all d = sales-bounded d.bands d.bands_fit (omega (arith, d.few_bands))
+  pub sold_in_all : {d : View} → Ranged d → Sold (sales_of d.bands supply)
+  sold_in_all {d} ok = sales-bounded d.bands ok.bands (omega (arith, ok.few_bands))
 
 -- What a turn over the bands has room for, and what it leaves: the band is at place i, and is sold so much.
 pub record Turn (supply : List ℕ) (bs : List OpenBand) (i : ℕ) (before : Sales) (sold : ℕ) : Type 0 where
@@ -76,13 +77,13 @@ pub record Turn (supply : List ℕ) (bs : List OpenBand) (i : ℕ) (before : Sal
   pub next : with_sale before (get_or bs i no_band) sold ≡ sales_of (take (i + 1) bs) supply
 
 -- of a docket's bands, after the sales to those before the place
-pub turn : (d : Docket) (supply : List ℕ) (bs : List OpenBand) (i : ℕ) (before : Sales) (sold : ℕ) → bs ≡ d.bands → i < length bs
+pub turn : {d : View} → Ranged d → (supply : List ℕ) (bs : List OpenBand) (i : ℕ) (before : Sales) (sold : ℕ) → bs ≡ d.bands → i < length bs
     → before ≡ sales_of (take i bs) supply → sold ≡ filled supply (get_or bs i no_band) → Turn supply bs i before sold
-turn d supply bs i before sold held inside so_far is =
+turn {d} ok supply bs i before sold held inside so_far is =
     let b = get_or bs i no_band in
-    let ranges = band_ranged d i bs held inside in
-    let few : length (take i bs) ≤ 64 = simp length-take (omega (arith, ap length held, d.few_bands)) in
-    let bounds = subst Sold (sym so_far) (sales-bounded supply (take i bs) (each_take band_fits i bs (rw held d.bands_fit)) few) in
+    let ranges = band_ranged ok i bs held inside in
+    let few : length (take i bs) ≤ 64 = simp length-take (omega (arith, ap length held, ok.few_bands)) in
+    let bounds = subst Sold (sym so_far) (sales-bounded supply (take i bs) (each_take band_fits i bs (rw held ok.bands)) few) in
     let most = filled-most supply b ranges in
     let dear = paid-most supply b ranges in
     let same = ap (λ n. n * b.terms.price) is in

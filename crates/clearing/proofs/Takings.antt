@@ -8,9 +8,10 @@ use Rattle.std.proofs.lemmas.Iterator.Consumers.{YieldsList-from_first}
 use Rattle.std.proofs.lemmas.Int.{ints}
 use Rattle.std.proofs.lemmas.Bool.{and_parts, and_from, cond_both}
 use Rattle.clearing.specs.declared.dockets.PricedPackage.{PricedPackage}
-use Rattle.clearing.specs.declared.dockets.Docket.{Docket}
 use Rattle.clearing.specs.declared.choices.Taken.{Taken}
 use Rattle.clearing.specs.Choices.{taken, still_taken}
+use Rattle.clearing.specs.Lawful.{View}
+use Rattle.clearing.specs.Ranged.{Ranged}
 use Rattle.clearing.specs.Ranges.{package_fits}
 use Rattle.clearing.specs.Tallies.{Room, tally_of, added}
 use Rattle.clearing.proofs.Fits.{each_item, each_take}
@@ -31,14 +32,14 @@ taken-few (p ∷ ps) choice =
     let rest = taken-few ps (choice / 2) in
     cond_both (eqb (choice % 2) 1) _ _ (λ qs. length qs ≤ suc (length ps)) (λ _. omega arith) (λ _. omega arith)
 
-module _ (d : Docket) (choice : ℕ) where
+module _ {d : View} (ok : Ranged d) (choice : ℕ) where
   -- what a choice takes of a docket is in range
   taken_ok : list_all package_fits (taken d.packages choice) ≡ true
-  taken_ok = taken-fits package_fits d.packages choice d.packages_fit
+  taken_ok = taken-fits package_fits d.packages choice ok.packages
 
   -- and no more than 40
   taken_short : length (taken d.packages choice) ≤ 40
-  taken_short = omega (arith, taken-few d.packages choice, d.few_packages)
+  taken_short = omega (arith, taken-few d.packages choice, ok.few_packages)
 
   -- so its sums are bounded
   pub taken-bounded : Bounded 400000000 (tally_of (taken d.packages choice))

@@ -6,7 +6,6 @@ use Rattle.offers.specs.declared.records.Exclusion.{Exclusion}
 use Rattle.offers.specs.declared.records.Limit.{Limit}
 use Rattle.clearing.specs.declared.dockets.PricedPackage.{PricedPackage}
 use Rattle.clearing.specs.declared.dockets.OpenBand.{OpenBand}
-use Rattle.clearing.specs.declared.dockets.Docket.{Docket}
 use Rattle.clearing.specs.Choices.{taken, total, markets, supply, dated, nameplates, exports, cost, has_number}
 use Rattle.clearing.specs.Sales.{filled}
 use Rattle.clearing.specs.Tallies.{row}
@@ -18,15 +17,6 @@ pub record View : Type 0 where
   pub pairs : List Pair
   pub exclusions : List Exclusion
   pub limits : List Limit
-
-abbrev pub view : Docket → View
-view d = record {
-  packages = d.packages;
-  bands = d.bands;
-  pairs = d.pairs;
-  exclusions = d.exclusions;
-  limits = d.limits;
-}
 
 -- where nothing is open
 abbrev pub nothing_open : View

@@ -4,6 +4,7 @@ pub mod Tallies
 pub mod Sales
 pub mod Bands
 pub mod Lawful
+pub mod Ranged
 pub mod Filling
 pub mod Kept
 pub mod Judging

@@ -1,9 +1,5 @@
 //! The docket: the records that were open at a closing, each package with its price.
-ghost use Rattle.std.specs.List.{list_all};
-ghost use Rattle.std.specs.Prelude.{◌≡◌, ◌≤◌, true, length};
-ghost use Rattle.offers.specs.Tables.{PACKAGES, BANDS, pair_layout, exclusion_layout, limit_layout};
-ghost use Rattle.clearing.specs.Bands.{rising, aheads, true_aheads};
-ghost use Rattle.clearing.specs.Ranges.{fits, package_fits, band_fits};
+ghost use Rattle.std.specs.Prelude.{◌≡◌};
 
 use crate::bounded::BoundedVec;
 use crate::choices::Taken;
@@ -14,6 +10,7 @@ use offers::{
 };
 use pricing::PriceRule;
 use std::alloc::{AllocError, Global};
+use std::marker::Model;
 
 /// An open package with its offer number and its price in pesos.
 #[derive(Clone, Copy)]
@@ -39,15 +36,18 @@ pub struct Docket {
     pub pairs: BoundedVec<Pair, PAIRS>,
     pub exclusions: BoundedVec<Exclusion, EXCLUSIONS>,
     pub limits: BoundedVec<Limit, LIMITS>,
-    ghost few_packages: { length packages ≤ PACKAGES },
-    ghost few_bands: { length bands ≤ BANDS },
-    ghost packages_fit: { list_all package_fits packages ≡ true },
-    ghost bands_rise: { rising bands ≡ true },
-    ghost bands_ahead: { aheads bands ≡ true_aheads bands },
-    ghost bands_fit: { list_all band_fits bands ≡ true },
-    ghost pairs_fit: { list_all (fits pair_layout) pairs ≡ true },
-    ghost exclusions_fit: { list_all (fits exclusion_layout) exclusions ≡ true },
-    ghost limits_fit: { list_all (fits limit_layout) limits ≡ true },
+}
+
+impl Model for Docket {
+    ghost use Rattle.clearing.specs.Lawful.{View};
+
+    ghost Value = { View };
+
+    ghost use Rattle.clearing.specs.Ranged.{Ranged, lists};
+
+    ghost view = { lists };
+
+    ghost invariant = { λ d. Ranged (lists d) };
 }
 
 impl Docket {
@@ -56,11 +56,12 @@ impl Docket {
     ghost use Rattle.offers.specs.Refusals.{Carries};
     ghost use Rattle.clearing.specs.Choices.{taken, still_taken};
     ghost use Rattle.clearing.specs.Closing.{ByClosing, OfOpen, closing};
-    ghost use Rattle.clearing.specs.Lawful.{view, nothing_open};
+    ghost use Rattle.clearing.specs.Lawful.{nothing_open};
+    ghost use Rattle.clearing.specs.Ranged.{Ranged};
 
     /// An empty docket, with memory for all that a round can have open.
     pub fn new(heap: Global) -> Result<Docket, AllocError>
-        ensures { IfOk result (λ d. view d ≡ nothing_open) }
+        ensures { IfOk result (λ d. d ≡ nothing_open) }
     {
         Ok(Docket {
             packages: BoundedVec::new(heap)?,
@@ -73,7 +74,7 @@ impl Docket {
 
     /// An empty docket again, with its memory.
     pub fn clear(&mut self)
-        ensures { view self.new ≡ nothing_open }
+        ensures { self.new ≡ nothing_open }
     {
         self.packages.clear();
         self.bands.clear();
@@ -84,12 +85,12 @@ impl Docket {
 
     /// Makes the docket of what is open, priced by a rule; a price fault leaves the docket as it was.
     pub fn close<P: PriceRule>(&mut self, offers: &Offers, rule: &mut P) -> Result<(), Refusal>
-        ensures answer { result ≡ (closing (view self.old) (entries_in offers.now) (P.PriceRule.meaning rule.old)).answer }
-        ensures after { view self.new ≡ (closing (view self.old) (entries_in offers.now) (P.PriceRule.meaning rule.old)).after }
+        ensures answer { result ≡ (closing self.old (entries_in offers.now) (P.PriceRule.meaning rule.old)).answer }
+        ensures after { self.new ≡ (closing self.old (entries_in offers.now) (P.PriceRule.meaning rule.old)).after }
         ensures same_rule { P.PriceRule.meaning rule.new ≡ P.PriceRule.meaning rule.old }
         // what a docket of a closing is, in words of the subject: laws of the definition that this call only carries
-        ensures by_closing { result ≡ Ok tt → ByClosing (view self.new) }
-        ensures of_open { result ≡ Ok tt → OfOpen (entries_in offers.now) (P.PriceRule.meaning rule.old) (view self.new) }
+        ensures by_closing { result ≡ Ok tt → ByClosing self.new }
+        ensures of_open { result ≡ Ok tt → OfOpen (entries_in offers.now) (P.PriceRule.meaning rule.old) self.new }
         ensures carries { IfErr result Carries }
     {
         let prices = price_all(&offers.packages, rule)?;
@@ -103,7 +104,8 @@ impl Docket {
 
     /// What a choice takes. Its binary digits stand for the docket's packages, the lowest for the first.
     pub fn taken(&self, choice: u64) -> Taken<'_>
-        ensures { still_taken result ≡ taken self.now.packages choice }
+        ensures taken { still_taken result ≡ taken self.now.packages choice }
+        ensures ranged { Ranged self.now }
     {
         Taken {
             packages: self.packages.as_slice(),

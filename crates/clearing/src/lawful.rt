@@ -4,7 +4,7 @@ ghost use Rattle.offers.specs.Tables.{limit_layout};
 ghost use Rattle.clearing.specs.Filling.{BestFilled};
 ghost use Rattle.clearing.specs.Judging.{dates_stand, worth_of};
 ghost use Rattle.clearing.specs.Kept.{PairsKept, ExclusionsKept, ZonesKept, DatesKept, zone_load};
-ghost use Rattle.clearing.specs.Lawful.{view, Lawful, Worth, filled_sales, percentage};
+ghost use Rattle.clearing.specs.Lawful.{Lawful, Worth, filled_sales, percentage};
 ghost use Rattle.clearing.specs.Tallies.{row};
 ghost use Rattle.clearing.specs.Ranges.{fits, at_most, MOST_SUPPLY, MOST_ASKED};
 
@@ -110,7 +110,7 @@ fn dates_kept(docket: &Docket, tally: &Tally, sales: &Sales) -> bool
 
 /// Whether what is dated of the packages that one choice takes keeps the percentages of what another choice's filled sales sell.
 pub fn dates_stand(docket: &Docket, first: u64, last: u64) -> bool
-    ensures { result ≡ dates_stand (view docket.now) first last }
+    ensures { result ≡ dates_stand docket.now first last }
 {
     let dated = Tally::new(docket, first);
     let selling = Tally::new(docket, last);
@@ -120,10 +120,10 @@ pub fn dates_stand(docket: &Docket, first: u64, last: u64) -> bool
 
 /// The surplus in pesos of a choice with filled sales, if it is lawful.
 pub fn worth(docket: &Docket, choice: u64) -> Option<i64>
-    ensures value { result ≡ worth_of (view docket.now) choice }
-    ensures worth { Worth (view docket.now) choice result }
+    ensures value { result ≡ worth_of docket.now choice }
+    ensures worth { Worth docket.now choice result }
     // why filled sales are the sales to take, a law of every choice that this call only carries
-    ensures best_filled { BestFilled (view docket.now) choice }
+    ensures best_filled { BestFilled docket.now choice }
 {
     let tally = Tally::new(docket, choice);
     let sales = sell(docket, &tally.supply);
@@ -140,7 +140,7 @@ pub fn worth(docket: &Docket, choice: u64) -> Option<i64>
 
 /// Whether some sales make a choice lawful.
 pub fn is_lawful(docket: &Docket, choice: u64) -> bool
-    ensures { IsTrue result ↔ ((sales : List ℕ) × Lawful (view docket.now) choice sales) }
+    ensures { IsTrue result ↔ ((sales : List ℕ) × Lawful docket.now choice sales) }
 {
     worth(docket, choice).is_some()
 }

@@ -1,6 +1,7 @@
 //! What the taken packages of a choice come to, in one pass over the docket.
 ghost use Rattle.std.specs.Prelude.{◌≡◌, true, ◌-◌};
 ghost use Rattle.clearing.specs.Choices.{taken, supplied, supply};
+ghost use Rattle.clearing.specs.Ranged.{Ranged};
 ghost use Rattle.clearing.specs.Ranges.{package_fits, at_most, MOST_SUPPLY};
 ghost use Rattle.clearing.specs.Tallies.{tally_of, Room, added, row, plus};
 
@@ -32,7 +33,8 @@ pub struct Tally {
 impl Tally {
     /// What a choice takes of a docket, together.
     pub fn new(docket: &Docket, choice: u64) -> Tally
-        ensures { result ≡ tally_of (taken docket.now.packages choice) }
+        ensures tally { result ≡ tally_of (taken docket.now.packages choice) }
+        ensures ranged { Ranged docket.now }
     {
         let mut sums = Tally {
             takes: [false; 41],
@@ -74,7 +76,8 @@ impl Tally {
 
 /// What a choice's packages supply to each market, in one light pass for those who need no more of the sums.
 pub fn supply_of(docket: &Docket, choice: u64) -> [u64; 5]
-    ensures { result ≡ row (λ m. supply m (taken docket.now.packages choice)) 1 5 }
+    ensures supply { result ≡ row (λ m. supply m (taken docket.now.packages choice)) 1 5 }
+    ensures ranged { Ranged docket.now }
 {
     let mut sums = [0u64; 5];
     for package in docket.taken(choice) {

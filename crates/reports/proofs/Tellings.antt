@@ -4,7 +4,7 @@ use Rattle.offers.specs.declared.records.Package.{Package}
 use Rattle.offers.specs.declared.refusals.Refusal.{Refusal}
 use Rattle.pricing.specs.Prices.{Bounded, filed_price}
 use Rattle.clearing.specs.declared.dockets.OpenBand.{OpenBand}
-use Rattle.clearing.specs.Lawful.{View, view, surplus, filled_sales}
+use Rattle.clearing.specs.Lawful.{View, surplus, filled_sales}
 use Rattle.bounds.specs.Blocks.{Answers}
 use Rattle.search.specs.Search.{Standing}
 use Rattle.rounds.specs.declared.awarded_round.AwardedRound.{AwardedRound}
@@ -46,10 +46,10 @@ filed_bounded : (p : Package) → Bounded (filed_price p)
 filed_bounded p = search rules
 
 -- The text of the report of a round that a sheet is cleared to answers the sheet.
-pub awarded_answers : (rule : Answers) (sheet : List ℕ) (round : AwardedRound) (report : Report) → Cleared rule open_and_vacant sheet round → Reports (view round.docket) round.at report
+pub awarded_answers : (rule : Answers) (sheet : List ℕ) (round : AwardedRound) (report : Report) → Cleared rule open_and_vacant sheet round → Reports round.docket round.at report
     → AnswersSheet sheet false (report_text report)
 awarded_answers rule sheet round report cleared reports =
-    let v = view round.docket in
+    let v = round.docket in
     let at = round.at in
     let f = cleared.finished in
     let award : OfAward (sheet_calls sheet ++ replicate f.searches (Search rule f.steps)) v at = f.run (sheet_calls sheet) (tt, (filed_bounded, tt)) refl in

@@ -1,7 +1,6 @@
 //! The report of an award, and what is printed of it or of a refused sheet.
 ghost use Rattle.std.specs.Prelude.{◌≡◌, ◌∷◌, length, map, IfOk, Some};
 ghost use Rattle.clearing.specs.Choices.{taken};
-ghost use Rattle.clearing.specs.Lawful.{view};
 ghost use Rattle.rounds.specs.Views.{of_awarded};
 ghost use Rattle.reports.specs.Reports.{ReportsIn, sold_line};
 ghost use Rattle.reports.specs.Text.{report_text, refused_text};

@@ -9,7 +9,7 @@ use Rattle.clearing.specs.Sales.{filled, sale_of}
 use Rattle.clearing.specs.Tallies.{row}
 use Rattle.clearing.proofs.Fits.{each_getD, open_ranges}
 use Rattle.clearing.proofs.Held.{no_band}
-use Rattle.clearing.proofs.Ranged.{Ranged}
+use Rattle.clearing.specs.Ranged.{Ranged}
 use Rattle.clearing.proofs.Rows.{getD_row}
 use Rattle.rounds.specs.Model.{supplies, sold_row}
 

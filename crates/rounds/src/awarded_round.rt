@@ -1,6 +1,6 @@
 //! An awarded round: its search has settled every choice, and the leader is the award.
 ghost use Rattle.std.specs.Prelude.{◌≡◌};
-ghost use Rattle.clearing.specs.Lawful.{view, choices};
+ghost use Rattle.clearing.specs.Lawful.{choices};
 
 use crate::open_round::OpenRound;
 use clearing::{Docket, Tally, sales_row};
@@ -21,7 +21,7 @@ pub struct AwardedRound {
     pub(crate) offers: Offers,
     pub(crate) docket: Docket,
     pub(crate) at: Position,
-    ghost finished: { at.settled ≡ choices (view docket) },
+    ghost finished: { at.settled ≡ choices docket },
 }
 
 impl AwardedRound {
@@ -44,7 +44,7 @@ impl AwardedRound {
 
     /// What was open at the closing.
     pub fn docket(&self) -> &Docket
-        ensures { view result.now ≡ docket_in (of_awarded self.now).state }
+        ensures { result.now ≡ docket_in (of_awarded self.now).state }
     {
         &self.docket
     }

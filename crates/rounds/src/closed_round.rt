@@ -1,6 +1,5 @@
 //! A closed round: it has a docket, which is searched.
 ghost use Rattle.std.specs.Prelude.{◌≡◌, ◌≤◌};
-ghost use Rattle.clearing.specs.Lawful.{view};
 ghost use Rattle.search.specs.Search.{Placed};
 
 use crate::awarded_round::AwardedRound;
@@ -17,7 +16,7 @@ pub struct ClosedRound {
     pub(crate) offers: Offers,
     pub(crate) docket: Docket,
     pub(crate) at: Position,
-    ghost placed: { Placed (view docket) at },
+    ghost placed: { Placed docket at },
 }
 
 /// What a search leaves.

@@ -1,6 +1,6 @@
 //! An open round: it takes filings, withdrawals, sheets and a closing.
 ghost use Rattle.std.specs.Prelude.{◌≡◌};
-ghost use Rattle.clearing.specs.Lawful.{view, nothing_open};
+ghost use Rattle.clearing.specs.Lawful.{nothing_open};
 
 use crate::closed_round::ClosedRound;
 use clearing::Docket;
@@ -15,7 +15,7 @@ use std::alloc::{AllocError, Global};
 pub struct OpenRound {
     pub(crate) offers: Offers,
     pub(crate) docket: Docket,
-    ghost empty: { view docket ≡ nothing_open },
+    ghost empty: { docket ≡ nothing_open },
 }
 
 impl OpenRound {

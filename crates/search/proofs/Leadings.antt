@@ -11,7 +11,8 @@ use Rattle.clearing.specs.Tallies.{row}
 use Rattle.clearing.proofs.Filling.{filled_small, filled_within}
 use Rattle.clearing.proofs.FillingSums.{all_of}
 use Rattle.clearing.proofs.Incomes.{income-none}
-use Rattle.clearing.proofs.Ranged.{Ranged, filled-most}
+use Rattle.clearing.specs.Ranged.{Ranged}
+use Rattle.clearing.proofs.Ranged.{filled-most}
 use Rattle.bounds.specs.Blocks.{Span, Answers, InDocket, InBlock, Claims}
 use Rattle.search.specs.Search.{Standing, Placed, Leads, start_position, next_block, can_skip, after_settling, after_trial, after_step}
 use Rattle.search.proofs.Placings.{step_cases}

@@ -1,7 +1,7 @@
 //! A search for the best lawful choice: where it stands, and how it goes on. The rule is consulted on the next block, which is then
 //! skipped, halved, or its one choice tried.
 ghost use Rattle.std.specs.Prelude.{◌≡◌, ◌+◌, ◌^◌, ◌<◌, ◌≤◌, length};
-ghost use Rattle.clearing.specs.Lawful.{view, choices};
+ghost use Rattle.clearing.specs.Lawful.{choices};
 ghost use Rattle.std.specs.Int.Count.{count_trailing_zeros};
 ghost use Rattle.search.specs.Search.{Standing};
 
@@ -32,7 +32,6 @@ impl Model for Position {
 
 impl Position {
     ghost use Rattle.clearing.specs.Judging.{worth_of};
-    ghost use Rattle.clearing.specs.Lawful.{view};
     ghost use Rattle.search.specs.Search.{work_left, start_position, after_settling, after_halving, after_trial};
 
     /// A search begins with choice 0, which takes nothing, settled and leading.
@@ -79,7 +78,7 @@ impl Position {
 
     // The next choice leads if it is lawful and worth more than the leader.
     fn lead(mut self, docket: &Docket) -> Position
-        ensures { result ≡ after_trial self (worth_of (view docket.now) self.settled) }
+        ensures { result ≡ after_trial self (worth_of docket.now self.settled) }
     {
         if let Some(surplus) = worth(docket, self.settled)
             && surplus > self.surplus
@@ -94,7 +93,7 @@ impl Position {
     pub(crate) fn try_choice(self, docket: &Docket) -> Position
         requires { self.settled < 2 ^ 40 }
         ensures falls { work_left result < work_left self }
-        ensures value { result ≡ after_settling (after_trial self (worth_of (view docket.now) self.settled)) 1 }
+        ensures value { result ≡ after_settling (after_trial self (worth_of docket.now self.settled)) 1 }
     {
         self.lead(docket).settle(1)
     }
@@ -102,13 +101,12 @@ impl Position {
 
 impl Position {
     ghost use Rattle.std.specs.Prelude.{length};
-    ghost use Rattle.clearing.specs.Lawful.{view};
     ghost use Rattle.search.specs.Search.{StepsTo, RunsFrom, work_left};
 
     /// Makes the steps that it is given, or fewer if every choice is settled before. As many steps as there are packages settle
     /// at least one choice, and a leader that was the best of the settled choices is so again.
     pub fn run<B: BoundingRule>(self, docket: &Docket, rule: &mut B, steps: u32) -> Position
-        ensures runs { RunsFrom (B.BoundingRule.answers rule.old) (view docket.now) steps self result }
+        ensures runs { RunsFrom (B.BoundingRule.answers rule.old) docket.now steps self result }
         ensures falls { 0 < steps → self.settled < 2 ^ length docket.now.packages → work_left result < work_left self }
         ensures same_rule { B.BoundingRule.answers rule.new ≡ B.BoundingRule.answers rule.old }
     {
@@ -125,9 +123,10 @@ impl Position {
 
     // One step of a search that is not finished.
     fn step<B: BoundingRule>(self, docket: &Docket, rule: &mut B) -> Position
-        requires { self.settled < 2 ^ 40 }
+        requires below { self.settled < 2 ^ 40 }
+        requires few { choices docket.now ≤ 2 ^ 40 }
         ensures falls { work_left result < work_left self }
-        ensures value { StepsTo (B.BoundingRule.answers rule.old) (view docket.now) self result }
+        ensures value { StepsTo (B.BoundingRule.answers rule.old) docket.now self result }
         ensures same_rule { B.BoundingRule.answers rule.new ≡ B.BoundingRule.answers rule.old }
     {
         let block = Block {
@@ -146,7 +145,7 @@ impl Position {
 /// The choices of a docket.
 pub fn choices(docket: &Docket) -> u64
     ensures value { result ≡ 2 ^ length docket.now.packages }
-    ensures count { result ≡ choices (view docket.now) }
+    ensures count { result ≡ choices docket.now }
     ensures bound { result ≤ 2 ^ 40 }
 {
     1u64 << docket.packages.as_slice().len()

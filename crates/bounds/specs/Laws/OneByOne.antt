@@ -12,7 +12,8 @@ use Rattle.clearing.specs.Lawful.{View}
 use Rattle.clearing.proofs.Diminishing.{income-added}
 use Rattle.clearing.proofs.Filling.{ranges_of}
 use Rattle.clearing.proofs.Held.{no_package}
-use Rattle.clearing.proofs.Ranged.{Ranged, filled-most}
+use Rattle.clearing.specs.Ranged.{Ranged}
+use Rattle.clearing.proofs.Ranged.{filled-most}
 use Rattle.bounds.specs.Blocks.{Span, InDocket, Claims}
 use Rattle.bounds.specs.Rules.{unlimited, lone_gains, one_by_one}
 use Rattle.bounds.specs.Laws.Parts.{lowest, first_part}

@@ -12,7 +12,7 @@ use Rattle.clearing.specs.Ranges.{package_fits}
 use Rattle.clearing.proofs.Filling.{ranges_of, market-most, best-filled, parts_of_one}
 use Rattle.clearing.proofs.Incomes.{income-few}
 use Rattle.clearing.proofs.Judged.{pairs_tell, exclusions_tell, zones_tell, dates_tell}
-use Rattle.clearing.proofs.Ranged.{Ranged}
+use Rattle.clearing.specs.Ranged.{Ranged}
 use Rattle.clearing.proofs.RowRules.{all_both}
 use Rattle.clearing.proofs.Takings.{taken-fits, taken-few}
 use Rattle.clearing.proofs.Tallying.{cost_between}

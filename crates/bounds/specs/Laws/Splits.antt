@@ -8,7 +8,7 @@ use Rattle.std.proofs.lemmas.Bool.{true≢false, and_from, and_parts}
 use Rattle.clearing.specs.declared.dockets.PricedPackage.{PricedPackage}
 use Rattle.clearing.specs.Choices.{taken}
 use Rattle.clearing.specs.Lawful.{View, Lawful}
-use Rattle.clearing.proofs.Ranged.{Ranged}
+use Rattle.clearing.specs.Ranged.{Ranged}
 use Rattle.bounds.specs.Blocks.{Span, InDocket, InBlock, fixed, possible, free_ones}
 use Rattle.bounds.specs.Rules.{joins}
 use Rattle.bounds.specs.Laws.Parts.{Part, part_same, part_both, part_next, part_of_part, part_after, lowest, fixed_digits, first_is, free_digits, choice_is}

@@ -19,7 +19,8 @@ use Rattle.clearing.proofs.Filling.{ranges_of, filled_of, filled-front}
 use Rattle.clearing.proofs.FillingSums.{over-map, row_getD}
 use Rattle.clearing.proofs.FillingOrder.{at_least}
 use Rattle.clearing.proofs.Incomes.{income-next}
-use Rattle.clearing.proofs.Ranged.{Ranged, filled-most}
+use Rattle.clearing.specs.Ranged.{Ranged}
+use Rattle.clearing.proofs.Ranged.{filled-most}
 use Rattle.clearing.proofs.Totals.{total-append}
 use Rattle.bounds.specs.Blocks.{Span, InDocket, Claims, fixed, possible, free_ones}
 use Rattle.bounds.specs.Multipliers.{Multipliers, unit_worth, value_at, multipliers}

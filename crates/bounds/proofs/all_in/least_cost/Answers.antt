@@ -9,12 +9,11 @@ use Rattle.std.proofs.lemmas.List.{length_push, take_more}
 use Rattle.std.proofs.lemmas.Iterator.{YieldsList-from_slice, YieldsList-from_take}
 use Rattle.std.proofs.lemmas.Iterator.Consumers.{YieldsList-turn, YieldsList-end}
 use Rattle.clearing.specs.declared.dockets.PricedPackage.{PricedPackage}
-use Rattle.clearing.specs.declared.dockets.Docket.{Docket}
 use Rattle.clearing.specs.Choices.{taken, cost}
-use Rattle.clearing.specs.Lawful.{view}
+use Rattle.clearing.specs.Lawful.{View}
+use Rattle.clearing.specs.Ranged.{Ranged}
 use Rattle.clearing.specs.Ranges.{package_fits}
 use Rattle.clearing.proofs.Fits.{each_take, priced_ranges}
-use Rattle.clearing.proofs.Ranged.{ranged_docket}
 use Rattle.clearing.proofs.Takings.{walk, next-room, next-fits, next-added, taken-priced}
 use Rattle.bounds.specs.Blocks.{Span, fixed, free_ones}
 use Rattle.bounds.specs.Rules.{below_zero}
@@ -35,15 +34,15 @@ below_zero-between (p ∷ ps) ok =
     (omega (arith, ints, clamps), omega (arith, ints, clamps))
 
 -- the next of the taken packages adds its price, and there is room for it
-taken-next : (d : Docket) (choice n : ℕ) (p : PricedPackage)
+taken-next : {d : View} (ok : Ranged d) (choice n : ℕ) (p : PricedPackage)
     → (n < length (taken d.packages choice)) × (p ≡ get_or (taken d.packages choice) n p)
     → (cost (take (n + 1) (taken d.packages choice)) ≡ cost (take n (taken d.packages choice)) +ℤ p.price)
     × (negsuc 799999999999 ≤ℤ cost (take (n + 1) (taken d.packages choice)))
     × (cost (take (n + 1) (taken d.packages choice)) ≤ℤ pos 800000000000)
-taken-next d choice n p next =
-    let room = next-room d choice n p next in
-    let r = priced_ranges p (next-fits d choice n p next) in
-    let more = sym (ap (λ t. t.cost) (next-added d choice n p next)) in
+taken-next {d} ok choice n p next =
+    let room = next-room ok choice n p next in
+    let r = priced_ranges p (next-fits ok choice n p next) in
+    let more = sym (ap (λ t. t.cost) (next-added ok choice n p next)) in
     (more, omega (arith, ints, more), omega (arith, ints, more))
 
 -- the next of some packages counts what is below 0 of its price
@@ -55,62 +54,62 @@ free-next ps n p next =
     ∙ ap (λ q. below_zero (take n ps) +ℤ int_min q.price (pos 0)) (sym next.1)
 
 -- the first so many of the free packages count no more than 40 of the greatest price
-free-between : (d : Docket) (b : Span) (n : ℕ) → (negsuc 799999999999 ≤ℤ below_zero (take n (free_ones (view d) b))) × (below_zero (take n (free_ones (view d) b)) ≤ℤ pos 0)
-free-between d b n =
-    let all = free_ones (view d) b in
-    let between = below_zero-between (take n all) (each_take package_fits n all (each_take package_fits b.free d.packages d.packages_fit)) in
-    (omega (arith, ints, between.0, length-take n all, length-take b.free d.packages, (ranged_docket d).few_packages), between.1)
+free-between : {d : View} (ok : Ranged d) (b : Span) (n : ℕ) → (negsuc 799999999999 ≤ℤ below_zero (take n (free_ones d b))) × (below_zero (take n (free_ones d b)) ≤ℤ pos 0)
+free-between {d} ok b n =
+    let all = free_ones d b in
+    let between = below_zero-between (take n all) (each_take package_fits n all (each_take package_fits b.free d.packages ok.packages)) in
+    (omega (arith, ints, between.0, length-take n all, length-take b.free d.packages, ok.few_packages), between.1)
 
 pub overflow_add-cost : goal.overflow_add-cost
 overflow_add-cost c =
-    let road = walk c.args.docket.now c.args.block.first c.into_iter-package-iterator.result cc in
+    let road = walk {d = c.args.docket.now} c.taken-package-items.ensures.ranged c.args.block.first c.into_iter-package-iterator.result cc in
     let t = YieldsList-turn road c.loop-package.yielded _ c.loop-package.yielded_by _ c.next.new.self c.in-Some.package c.in-Some.is c.next.ensures.steps in
-    let next = taken-next c.args.docket.now c.args.block.first _ c.in-Some.package.now t in
+    let next = taken-next c.taken-package-items.ensures.ranged c.args.block.first _ c.in-Some.package.now t in
     omega (arith, ints, next.0, next.1, next.2)
 
 pub loop-package-preserved : goal.loop-package-preserved
 loop-package-preserved c =
-    let road = walk c.args.docket.now c.args.block.first c.into_iter-package-iterator.result cc in
+    let road = walk {d = c.args.docket.now} c.taken-package-items.ensures.ranged c.args.block.first c.into_iter-package-iterator.result cc in
     let t = YieldsList-turn road c.loop-package.yielded _ c.loop-package.yielded_by _ c.next.new.self c.in-Some.package c.in-Some.is c.next.ensures.steps in
-    let next = taken-next c.args.docket.now c.args.block.first _ c.in-Some.package.now t in
+    let next = taken-next c.taken-package-items.ensures.ranged c.args.block.first _ c.in-Some.package.now t in
     rw (length_push c.loop-package.yielded c.in-Some.package) (omega (arith, ints, next.0, next.1, next.2))
 
 pub loop-free-init : goal.loop-free-init
 loop-free-init c =
-    let all = fixed (view c.args.docket.now) c.args.block in
-    let t = YieldsList-end (walk c.args.docket.now c.args.block.first c.into_iter-package-iterator.result (rw (← ap (λ (b : Span). b.first) c.block.view_is) cc)) c.loop-package.yielded _ c.loop-package.yielded_by _ c.next.new.self c.in-None.is c.next.ensures.steps in
+    let all = fixed c.args.docket.now c.args.block in
+    let t = YieldsList-end (walk {d = c.args.docket.now} c.taken-package-items.ensures.ranged c.args.block.first c.into_iter-package-iterator.result (rw (← ap (λ (b : Span). b.first) c.block.view_is) cc)) c.loop-package.yielded _ c.loop-package.yielded_by _ c.next.new.self c.in-None.is c.next.ensures.steps in
     omega (arith, ints, c.loop-package.invariant, ap (λ n. cost (take n all)) t.1, ap cost (take-length all))
 
 pub overflow_add-cost-in-loop-free : goal.overflow_add-cost-in-loop-free
 overflow_add-cost-in-loop-free c =
     let d = c.args.docket.now in
     let b = c.args.block in
-    let road = YieldsList-from_take {s = c.into_iter-free-iterator.result} b.free (YieldsList-from_slice d.packages cc) cc in
+    let road = YieldsList-from_take {s = c.into_iter-free-iterator.result} b.free (YieldsList-from_slice d.packages (rw (← c.docket.view_is) cc)) cc in
     let t = YieldsList-turn road c.loop-free.yielded _ c.loop-free.yielded_by _ c.next-in-loop-free.new.self c.in-Some-free.free c.in-Some-free.is c.next-in-loop-free.ensures.steps in
-    let next = free-next (free_ones (view d) b) _ c.in-Some-free.free.now t in
-    let between = free-between d b (length c.loop-free.yielded + 1) in
-    let priced = taken-priced d b.first in
+    let next = free-next (free_ones d b) _ c.in-Some-free.free.now t in
+    let between = free-between c.taken-package-items.ensures.ranged b (length c.loop-free.yielded + 1) in
+    let priced = taken-priced c.taken-package-items.ensures.ranged b.first in
     omega (arith, ints, clamps)
 
 pub loop-free-preserved : goal.loop-free-preserved
 loop-free-preserved c =
     let d = c.args.docket.now in
     let b = c.args.block in
-    let road = YieldsList-from_take {s = c.into_iter-free-iterator.result} b.free (YieldsList-from_slice d.packages cc) cc in
+    let road = YieldsList-from_take {s = c.into_iter-free-iterator.result} b.free (YieldsList-from_slice d.packages (rw (← c.docket.view_is) cc)) cc in
     let t = YieldsList-turn road c.loop-free.yielded _ c.loop-free.yielded_by _ c.next-in-loop-free.new.self c.in-Some-free.free c.in-Some-free.is c.next-in-loop-free.ensures.steps in
-    let next = free-next (free_ones (view d) b) _ c.in-Some-free.free.now t in
-    let between = free-between d b (length c.loop-free.yielded + 1) in
-    let priced = taken-priced d b.first in
+    let next = free-next (free_ones d b) _ c.in-Some-free.free.now t in
+    let between = free-between c.taken-package-items.ensures.ranged b (length c.loop-free.yielded + 1) in
+    let priced = taken-priced c.taken-package-items.ensures.ranged b.first in
     rw (length_push c.loop-free.yielded c.in-Some-free.free) (omega (arith, ints, clamps))
 
 pub returns-clause-low : goal.returns-clause-low
 returns-clause-low c =
-    let between = free-between c.args.docket.now c.args.block (length c.loop-free.yielded) in
-    let priced = taken-priced c.args.docket.now c.args.block.first in
+    let between = free-between c.taken-package-items.ensures.ranged c.args.block (length c.loop-free.yielded) in
+    let priced = taken-priced c.taken-package-items.ensures.ranged c.args.block.first in
     omega (arith, ints, c.loop-free.invariant)
 
 pub returns-clause-high : goal.returns-clause-high
 returns-clause-high c =
-    let between = free-between c.args.docket.now c.args.block (length c.loop-free.yielded) in
-    let priced = taken-priced c.args.docket.now c.args.block.first in
+    let between = free-between c.taken-package-items.ensures.ranged c.args.block (length c.loop-free.yielded) in
+    let priced = taken-priced c.taken-package-items.ensures.ranged c.args.block.first in
     omega (arith, ints, c.loop-free.invariant)

@@ -55,7 +55,7 @@ loop-exclusion-preserved c =
     let i = c.loop-exclusion.exclusion-index in
     let inside = c.loop-exclusion-test.true in
     let e = get_or xs i no_exclusion in
-    let r = exclusion_held c.args.docket.now i xs c.as_slice-exclusion-items.ensures.value inside in
+    let r = exclusion_held c.docket.invariant i xs c.as_slice-exclusion-items.ensures.value inside in
     elim c.if-tally-exclusion.branch [
       | then-tally-exclusion w ↦
           w.heads-is

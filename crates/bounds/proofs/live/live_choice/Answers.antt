@@ -8,12 +8,10 @@ use Rattle.std.proofs.lemmas.List.{get_or-take, length-take, take_all}
 use Rattle.offers.specs.declared.records.Exclusion.{Exclusion}
 use Rattle.clearing.specs.declared.dockets.PricedPackage.{PricedPackage}
 use Rattle.clearing.specs.Choices.{taken}
-use Rattle.clearing.specs.Lawful.{view}
 use Rattle.clearing.specs.Ranges.{package_fits}
 use Rattle.clearing.specs.Tallies.{row, tally_of}
 use Rattle.clearing.proofs.Fits.{each_getD}
 use Rattle.clearing.proofs.Held.{no_package}
-use Rattle.clearing.proofs.Ranged.{ranged_docket}
 use Rattle.clearing.proofs.Takings.{taken-bounded}
 use Rattle.clearing.proofs.Tallying.{Bounded}
 use Rattle.bounds.specs.Rules.{joins}
@@ -55,48 +53,49 @@ module _ (test : PricedPackage → Bool) (ps : List PricedPackage) (k i : ℕ) (
 pub returns-then-not-stands : goal.returns-then-not-stands
 returns-then-not-stands c block =
     let d = c.args.docket.now in
-    let v = view d in
+    let v = d in
     let b = c.args.block in
-    let firsts = c.new-fixed.ensures ∙ ap (λ b. tally_of (fixed v b)) c.block.view_is in
-    let others = c.new-possible.ensures ∙ ap (λ n. tally_of (taken v.packages n)) c.last.ensures in
+    let firsts = c.new-fixed.ensures.tally ∙ ap (λ b. tally_of (fixed v b)) c.block.view_is in
+    let others = c.new-possible.ensures.tally ∙ ap (λ n. tally_of (taken v.packages n)) c.last.ensures in
     taken_none v.packages
-    ∙ sym (none-joins d (fixed v b) (possible v b) (sym (c.stands.ensures (fixed v b) (possible v b) firsts others) ∙ c.if-not-stands.true) (free_ones v b))
+    ∙ sym (none-joins c.new-fixed.ensures.ranged (fixed v b) (possible v b) (sym (c.stands.ensures (fixed v b) (possible v b) firsts others) ∙ c.if-not-stands.true) (free_ones v b))
 
 pub loop-place-init : goal.loop-place-init
 loop-place-init c = record { bound = omega arith; value = λ block. taken_none c.args.docket.now.packages }
 
 pub has_room-requires-clause-nameplate : goal.has_room-requires-clause-nameplate
 has_room-requires-clause-nameplate c =
-    (subst (Bounded 400000000) (sym c.new-fixed.ensures) (taken-bounded c.args.docket.now c.block.inside.first)).nameplate
+    (subst (Bounded 400000000) (sym c.new-fixed.ensures.tally) (taken-bounded c.new-fixed.ensures.ranged c.block.inside.first)).nameplate
 
 pub has_room-requires-clause-export : goal.has_room-requires-clause-export
 has_room-requires-clause-export c =
-    (subst (Bounded 400000000) (sym c.new-fixed.ensures) (taken-bounded c.args.docket.now c.block.inside.first)).export
+    (subst (Bounded 400000000) (sym c.new-fixed.ensures.tally) (taken-bounded c.new-fixed.ensures.ranged c.block.inside.first)).export
 
 pub loop-place-preserved : goal.loop-place-preserved
 loop-place-preserved c =
     let d = c.args.docket.now in
-    let v = view d in
+    let v = d in
     let b = c.args.block in
     let ps = d.packages in
     let test = joins v (fixed v b) (possible v b) in
-    let held = c.as_slice-package-items.ensures.value in
+    let ok = c.new-fixed.ensures.ranged in
+    let held = c.as_slice-package-items.ensures.value ∙ ap (λ v. v.packages) c.docket.view_is in
     let i = c.loop-place.place in
     let before = c.loop-place.invariant in
     let inside : i < length ps = omega (arith, c.loop-place-test.true, ap length held) in
-    let small : i < 64 = omega (arith, inside, (ranged_docket d).few_packages) in
+    let small : i < 64 = omega (arith, inside, ok.few_packages) in
     let shl = one_shl i 64 small in
     let next : 2 ^ (i + 1) ≡ 2 * 2 ^ i = rw (add-one i) (pow-succ' 2 i) in
     let p = get_or ps i no_package in
     let same = ap (λ qs. get_or qs i no_package) held in
     let free : c.block-2.inside.free ≡ b.free = ap (λ b. b.free) c.block-2.view_is in
-    let firsts = c.new-fixed.ensures ∙ ap (λ b. tally_of (fixed v b)) c.block.view_is in
-    let others = c.new-possible.ensures ∙ ap (λ n. tally_of (taken ps n)) c.last.ensures in
-    let bounded = subst (Bounded 400000000) (sym firsts) (taken-bounded d b.first) in
+    let firsts = c.new-fixed.ensures.tally ∙ ap (λ b. tally_of (fixed v b)) c.block.view_is in
+    let others = c.new-possible.ensures.tally ∙ ap (λ n. tally_of (taken ps n)) c.last.ensures in
+    let bounded = subst (Bounded 400000000) (sym firsts) (taken-bounded ok b.first) in
     let says =
-    joins-passed d (fixed v b) (possible v b) c.new-fixed.result c.new-possible.result firsts others bounded
+    joins-passed ok (fixed v b) (possible v b) c.new-fixed.result c.new-possible.result firsts others bounded
     (sym (c.stands.ensures (fixed v b) (possible v b) firsts others) ∙ c.if-not-stands.false) p
-    (each_getD package_fits ps i no_package inside d.packages_fit) in
+    (each_getD package_fits ps i no_package inside ok.packages) in
     let xs = d.exclusions in
     let ls = d.limits in
     let from = row (tightest 1 ls) 1 16 in

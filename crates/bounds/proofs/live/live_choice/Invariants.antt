@@ -2,14 +2,13 @@
 use Rattle.std.proofs.Common.{◌≡◌, ◌^◌, ◌<◌, take}
 use Rattle.std.specs.List.{filter}
 use Rattle.clearing.specs.Choices.{taken}
-use Rattle.clearing.specs.Lawful.{view}
 use Rattle.bounds.specs.Blocks.{InDocket, fixed, possible, free_ones}
 use Rattle.bounds.specs.Rules.{joins}
 use Rattle.bounds.proofs.live.live_choice.Given as goal
 
 abbrev pub invariant-loop-place : goal.invariant-loop-place
 invariant-loop-place l =
-    let v = view l.docket in
+    let v = l.docket in
     let b = l.fn.block in
     record {
       bound : l.live < 2 ^ l.place;

@@ -63,7 +63,7 @@ loop-limit-preserved c =
     let i = c.loop-limit.limit-index in
     let inside = c.loop-limit-test.true in
     let l = get_or ls i no_limit in
-    let r = limit_ranged c.args.docket.now i ls c.as_slice-limit-items.ensures.value inside in
+    let r = limit_ranged c.docket.invariant i ls c.as_slice-limit-items.ensures.value inside in
     elim c.if-is_on.branch [
       | then-is_on w ↦
           w.least-is

@@ -5,13 +5,13 @@ use Rattle.std.proofs.lemmas.List.{length-take, take_more}
 use Rattle.std.proofs.lemmas.Bool.{and_parts, cond_both, eqb-true, ltb-true}
 use Rattle.std.proofs.lemmas.Bool.Decides.{nat_tests}
 use Rattle.clearing.specs.declared.dockets.OpenBand.{OpenBand}
-use Rattle.clearing.specs.declared.dockets.Docket.{Docket}
 use Rattle.clearing.specs.Choices.{total}
+use Rattle.clearing.specs.Lawful.{View}
+use Rattle.clearing.specs.Ranged.{Ranged}
 use Rattle.clearing.specs.Ranges.{band_fits}
 use Rattle.clearing.specs.Tallies.{row}
 use Rattle.clearing.proofs.Fits.{each_take, each-most, open_ranges}
 use Rattle.clearing.proofs.Held.{no_band, band_ranged}
-use Rattle.clearing.proofs.Ranged.{ranged_docket}
 use Rattle.clearing.proofs.Rows.{getD_row, row_same, row-set, where_most}
 use Rattle.clearing.proofs.Totals.{total-append, totals_most}
 use Rattle.bounds.specs.Multipliers.{Multipliers, unit_worth, asked_above}
@@ -40,13 +40,13 @@ counts-elsewhere : (l : Multipliers) (m : ℕ) (b : OpenBand) → (b.terms.marke
 counts-elsewhere l m b not = grind (arith, nat_tests)
 
 -- the bands so far ask for no more than 64 can
-asked-few : (d : Docket) (l : Multipliers) (bs : List OpenBand) (i : ℕ) → bs ≡ d.bands
+asked-few : {d : View} → Ranged d → (l : Multipliers) (bs : List OpenBand) (i : ℕ) → bs ≡ d.bands
     → list_all (λ n. leb n 6400000000) (row (asked_above (take i bs) l) 1 5) ≡ true
-asked-few d l bs i held =
-    let few : length (take i bs) ≤ 64 = simp length-take (omega (arith, ap length held, (ranged_docket d).few_bands)) in
+asked-few {d} ok l bs i held =
+    let few : length (take i bs) ≤ 64 = simp length-take (omega (arith, ap length held, ok.few_bands)) in
     totals_most band_fits (counted l) 64 100000000 6400000000 (take i bs) 1 5
     (λ m b e. where_most _ b.terms.quantity 100000000 (open_ranges b e).of_record.quantity)
-    (each_take band_fits i bs (rw held d.bands_fit)) few (omega arith)
+    (each_take band_fits i bs (rw held ok.bands)) few (omega arith)
 
 module _ (l : Multipliers) (bs : List OpenBand) (i : ℕ) (inside : i < length bs) where
   -- the next band
@@ -79,8 +79,8 @@ module _ (l : Multipliers) (bs : List OpenBand) (i : ℕ) (inside : i < length b
 pub overflow_add-asked : goal.overflow_add-asked
 overflow_add-asked c =
     let bs = c.as_slice-band-items.result.now in
-    let r = band_ranged c.args.docket.now c.loop-band.band-index bs c.as_slice-band-items.ensures.value c.loop-band-test.true in
-    let few = subst (λ (xs : List ℕ). list_all (λ n. leb n 6400000000) xs ≡ true) (sym c.loop-band.invariant) (asked-few c.args.docket.now c.args.multipliers.now bs c.loop-band.band-index c.as_slice-band-items.ensures.value) in
+    let r = band_ranged c.docket.invariant c.loop-band.band-index bs c.as_slice-band-items.ensures.value c.loop-band-test.true in
+    let few = subst (λ (xs : List ℕ). list_all (λ n. leb n 6400000000) xs ≡ true) (sym c.loop-band.invariant) (asked-few c.docket.invariant c.args.multipliers.now bs c.loop-band.band-index c.as_slice-band-items.ensures.value) in
     omega (arith, r.of_record.quantity, each-most 6400000000 c.loop-band.asked ((get_or bs c.loop-band.band-index no_band).terms.market - 1) few)
 
 pub loop-band-preserved : goal.loop-band-preserved
@@ -90,7 +90,7 @@ loop-band-preserved c =
     let i = c.loop-band.band-index in
     let inside = c.loop-band-test.true in
     let b = get_or bs i no_band in
-    let r = band_ranged c.args.docket.now i bs c.as_slice-band-items.ensures.value inside in
+    let r = band_ranged c.docket.invariant i bs c.as_slice-band-items.ensures.value inside in
     elim c.if-multipliers-market.branch [
       | then-multipliers-market w ↦
           w.asked-is

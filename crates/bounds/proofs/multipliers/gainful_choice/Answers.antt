@@ -1,5 +1,5 @@
 -- `gainful_choice`: each turn asks of one package more whether it is taken and worth more than its price, and if so gives it its digit.
-use Rattle.std.proofs.Common.{◌≡◌, ℕ, ◌+◌, ◌*◌, ◌/◌, ◌%◌, ◌^◌, ◌<◌, Bool, true, false, cond, ◌&&◌, eqb, List, [], ◌∷◌, ◌++◌, length, get_or, take, pos, w64, to_z, of_z, sym, refl, ap, ◌∙◌, add-one, arith}
+use Rattle.std.proofs.Common.{◌≡◌, ℕ, ◌+◌, ◌*◌, ◌/◌, ◌%◌, ◌^◌, ◌<◌, Bool, true, false, cond, ◌&&◌, eqb, List, [], ◌∷◌, ◌++◌, length, get_or, take, pos, w64, to_z, of_z, sym, refl, ap, ◌∙◌, add-one, subst, arith}
 use Rattle.std.specs.Prelude.{int_lt}
 use Rattle.std.specs.List.{filter}
 use Rattle.std.proofs.Math.Nat.{pow-succ'}
@@ -10,8 +10,8 @@ use Rattle.std.proofs.lemmas.List.{append-nil}
 use Rattle.std.proofs.lemmas.List.Elements.{filter-append}
 use Rattle.clearing.specs.declared.dockets.PricedPackage.{PricedPackage}
 use Rattle.clearing.specs.Choices.{taken}
+use Rattle.clearing.specs.Ranged.{Ranged}
 use Rattle.clearing.proofs.Held.{no_package}
-use Rattle.clearing.proofs.Ranged.{ranged_docket}
 use Rattle.bounds.specs.Multipliers.{Multipliers, gain, gainful}
 use Rattle.bounds.specs.Laws.Splits.{taken_none}
 use Rattle.bounds.proofs.Digits.{taken_with, taken_next, halved_more}
@@ -63,12 +63,12 @@ loop-place-preserved c =
     let l = c.args.multipliers.now in
     let choice = c.args.choice in
     let ps = d.packages in
-    let held = c.as_slice-package-items.ensures.value in
+    let held = c.as_slice-package-items.ensures.value ∙ ap (λ v. v.packages) c.docket.view_is in
     let i = c.loop-place.place in
     let so_far = c.loop-place.gainful in
     let before = c.loop-place.invariant in
     let inside : i < length ps = omega (arith, c.loop-place-test.true, ap length held) in
-    let small : i < 64 = omega (arith, inside, (ranged_docket d).few_packages) in
+    let small : i < 64 = omega (arith, inside, (subst Ranged c.docket.view_is c.docket.invariant).few_packages) in
     let shl = one_shl i 64 small in
     let next : 2 ^ (i + 1) ≡ 2 * 2 ^ i = rw (add-one i) (pow-succ' 2 i) in
     let rest = ap (λ n. n / 2) before.rest ∙ sym (halved_more choice i) in

@@ -5,7 +5,6 @@ use Rattle.std.proofs.lemmas.Bool.{cond_both, le-leb}
 use Rattle.clearing.specs.declared.dockets.PricedPackage.{PricedPackage}
 use Rattle.clearing.specs.declared.dockets.OpenBand.{OpenBand}
 use Rattle.clearing.specs.Choices.{taken, supply}
-use Rattle.clearing.specs.Lawful.{view}
 use Rattle.clearing.specs.Tallies.{row}
 use Rattle.clearing.proofs.Filling.{ranges_of}
 use Rattle.clearing.proofs.Fits.{OpenRanges, each-most}
@@ -84,12 +83,12 @@ module _ (bands : List OpenBand) (ranges : Every OpenRanges bands) (fixed free :
   narrowing_few (suc times) = narrowed_few (narrowing times bands fixed free (widest bands fixed free)) (narrowing_few times)
 
 pub loop-turn-init : goal.loop-turn-init
-loop-turn-init c = c.widest-between.ensures ∙ sym (narrowing-none _ _ _ _)
+loop-turn-init c = c.widest-between.ensures.value ∙ sym (narrowing-none _ _ _ _)
 
 pub loop-turn-preserved : goal.loop-turn-preserved
 loop-turn-preserved c =
     let d = c.args.docket.now in
-    let fixed_ones = fixed (view d) c.args.block in
+    let fixed_ones = fixed d c.args.block in
     let free = taken d.packages c.args.live in
     c.narrowed-between.ensures
     ∙ ap (narrowed d.bands fixed_ones free) c.loop-turn.invariant
@@ -98,7 +97,7 @@ loop-turn-preserved c =
 pub returns-clause-range : goal.returns-clause-range
 returns-clause-range c =
     let d = c.args.docket.now in
-    let fixed_ones = fixed (view d) c.args.block in
+    let fixed_ones = fixed d c.args.block in
     let free = taken d.packages c.args.live in
-    let within = narrowing_few d.bands (ranges_of d.bands d.bands_fit) fixed_ones free c.loop-turn._turn in
+    let within = narrowing_few d.bands (ranges_of d.bands c.widest-between.ensures.ranged.bands) fixed_ones free c.loop-turn._turn in
     subst Priced (sym c.middle.ensures) (middle_few c.loop-turn.between (subst Within (sym c.loop-turn.invariant) within))

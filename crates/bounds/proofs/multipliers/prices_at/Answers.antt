@@ -78,7 +78,7 @@ loop-band-preserved c =
     let i = c.loop-band.band-index in
     let inside = c.loop-band-test.true in
     let b = get_or bs i no_band in
-    let r = band_ranged c.args.docket.now i bs c.as_slice-band-items.ensures.value inside in
+    let r = band_ranged c.docket.invariant i bs c.as_slice-band-items.ensures.value inside in
     elim c.if-amounts-market.branch [
       | then-amounts-market w ↦
           w.prices-is

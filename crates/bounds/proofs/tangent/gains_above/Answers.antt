@@ -6,9 +6,9 @@ use Rattle.std.proofs.lemmas.Int.{ints, clamps}
 use Rattle.std.proofs.lemmas.List.{length_push, take_more}
 use Rattle.std.proofs.lemmas.Iterator.Consumers.{YieldsList-turn, YieldsList-end}
 use Rattle.clearing.specs.declared.dockets.PricedPackage.{PricedPackage}
-use Rattle.clearing.specs.declared.dockets.Docket.{Docket}
 use Rattle.clearing.specs.Choices.{taken}
-use Rattle.clearing.proofs.Ranged.{ranged_docket}
+use Rattle.clearing.specs.Lawful.{View}
+use Rattle.clearing.specs.Ranged.{Ranged}
 use Rattle.clearing.proofs.Takings.{walk, next-fits, taken-few}
 use Rattle.bounds.specs.Multipliers.{Multipliers, gain}
 use Rattle.bounds.specs.Rules.{gains_above}
@@ -28,24 +28,24 @@ above-next l ps n p next =
     ∙ ap (λ q. gains_above l (take n ps) +ℤ int_max (gain l q) (pos 0)) (sym next.1)
 
 -- it is one of at most 40
-next-few : (d : Docket) (choice n : ℕ) → n < length (taken d.packages choice) → n < 40
-next-few d choice n inside = omega (arith, inside, taken-few d.packages choice, (ranged_docket d).few_packages)
+next-few : {d : View} (ok : Ranged d) (choice n : ℕ) → n < length (taken d.packages choice) → n < 40
+next-few {d} ok choice n inside = omega (arith, inside, taken-few d.packages choice, ok.few_packages)
 
 pub gain-requires : goal.gain-requires
 gain-requires c =
-    let t = YieldsList-turn (walk c.args.docket.now c.args.choice c.into_iter-package-iterator.result cc) c.loop-package.yielded _ c.loop-package.yielded_by _ c.next.new.self c.in-Some.package c.in-Some.is c.next.ensures.steps in
-    next-fits c.args.docket.now c.args.choice _ _ t
+    let t = YieldsList-turn (walk c.taken-package-items.ensures.ranged c.args.choice c.into_iter-package-iterator.result cc) c.loop-package.yielded _ c.loop-package.yielded_by _ c.next.new.self c.in-Some.package c.in-Some.is c.next.ensures.steps in
+    next-fits c.taken-package-items.ensures.ranged c.args.choice _ _ t
 
 pub overflow_add-above : goal.overflow_add-above
 overflow_add-above c =
-    let t = YieldsList-turn (walk c.args.docket.now c.args.choice c.into_iter-package-iterator.result cc) c.loop-package.yielded _ c.loop-package.yielded_by _ c.next.new.self c.in-Some.package c.in-Some.is c.next.ensures.steps in
-    omega (arith, ints, clamps, next-few c.args.docket.now c.args.choice _ t.0, c.loop-package.invariant.low, c.loop-package.invariant.high, c.gain.ensures.low, c.gain.ensures.high)
+    let t = YieldsList-turn (walk c.taken-package-items.ensures.ranged c.args.choice c.into_iter-package-iterator.result cc) c.loop-package.yielded _ c.loop-package.yielded_by _ c.next.new.self c.in-Some.package c.in-Some.is c.next.ensures.steps in
+    omega (arith, ints, clamps, next-few c.taken-package-items.ensures.ranged c.args.choice _ t.0, c.loop-package.invariant.low, c.loop-package.invariant.high, c.gain.ensures.low, c.gain.ensures.high)
 
 pub loop-package-preserved : goal.loop-package-preserved
 loop-package-preserved c =
-    let t = YieldsList-turn (walk c.args.docket.now c.args.choice c.into_iter-package-iterator.result cc) c.loop-package.yielded _ c.loop-package.yielded_by _ c.next.new.self c.in-Some.package c.in-Some.is c.next.ensures.steps in
+    let t = YieldsList-turn (walk c.taken-package-items.ensures.ranged c.args.choice c.into_iter-package-iterator.result cc) c.loop-package.yielded _ c.loop-package.yielded_by _ c.next.new.self c.in-Some.package c.in-Some.is c.next.ensures.steps in
     let next = above-next c.args.multipliers.now (taken c.args.docket.now.packages c.args.choice) _ c.in-Some.package.now t in
-    let few = next-few c.args.docket.now c.args.choice _ t.0 in
+    let few = next-few c.taken-package-items.ensures.ranged c.args.choice _ t.0 in
     rw (length_push c.loop-package.yielded c.in-Some.package) (record {
       counted = omega (arith, ints, clamps, next, c.loop-package.invariant, c.gain.ensures);
       low = omega (arith, ints, clamps, c.loop-package.invariant, c.gain.ensures);
@@ -54,12 +54,12 @@ loop-package-preserved c =
 
 pub returns-clause-value : goal.returns-clause-value
 returns-clause-value c =
-    let t = YieldsList-end (walk c.args.docket.now c.args.choice c.into_iter-package-iterator.result cc) c.loop-package.yielded _ c.loop-package.yielded_by _ c.next.new.self c.in-None.is c.next.ensures.steps in
+    let t = YieldsList-end (walk c.taken-package-items.ensures.ranged c.args.choice c.into_iter-package-iterator.result cc) c.loop-package.yielded _ c.loop-package.yielded_by _ c.next.new.self c.in-None.is c.next.ensures.steps in
     c.loop-package.invariant.counted
     ∙ ap (λ n. gains_above c.args.multipliers.now (take n (taken c.args.docket.now.packages c.args.choice))) t.1
     ∙ ap (gains_above c.args.multipliers.now) (take-length _)
 
 pub returns-clause-high : goal.returns-clause-high
 returns-clause-high c =
-    let t = YieldsList-end (walk c.args.docket.now c.args.choice c.into_iter-package-iterator.result cc) c.loop-package.yielded _ c.loop-package.yielded_by _ c.next.new.self c.in-None.is c.next.ensures.steps in
-    omega (arith, ints, c.loop-package.invariant, t.1, taken-few c.args.docket.now.packages c.args.choice, (ranged_docket c.args.docket.now).few_packages)
+    let t = YieldsList-end (walk c.taken-package-items.ensures.ranged c.args.choice c.into_iter-package-iterator.result cc) c.loop-package.yielded _ c.loop-package.yielded_by _ c.next.new.self c.in-None.is c.next.ensures.steps in
+    omega (arith, ints, c.loop-package.invariant, t.1, taken-few c.args.docket.now.packages c.args.choice, c.taken-package-items.ensures.ranged.few_packages)

@@ -6,7 +6,6 @@ use Rattle.clearing.specs.Choices.{total}
 use Rattle.clearing.specs.Sales.{filled}
 use Rattle.clearing.proofs.Fits.{OpenRanges}
 use Rattle.clearing.proofs.Held.{no_band, band_ranged}
-use Rattle.clearing.proofs.Ranged.{ranged_docket}
 use Rattle.clearing.proofs.Totals.{total-append}
 use Rattle.bounds.specs.Multipliers.{Multipliers, unit_worth}
 use Rattle.bounds.specs.Rules.{sold_above}
@@ -47,8 +46,8 @@ pub overflow_mul-above : goal.overflow_mul-above
 overflow_mul-above c =
     let bs = c.as_slice-band-items.result.now in
     let i = c.loop-place.place in
-    let r = band_ranged c.args.docket.now i bs c.as_slice-band-items.ensures.value c.loop-place-test.true in
-    let is = counted-at c.args.multipliers.now c.args.less.now c.args.more.now c.args.docket.now.bands bs i c.sale_at-in-loop-place.result c.sale_at.result c.saturating_sub-sold.result c.saturating_sub.result c.as_slice-band-items.ensures.value c.loop-place-test.true c.sale_at.ensures c.sale_at-in-loop-place.ensures c.saturating_sub-sold.ensures c.saturating_sub.ensures in
+    let r = band_ranged c.docket.invariant i bs c.as_slice-band-items.ensures.value c.loop-place-test.true in
+    let is = counted-at c.args.multipliers.now c.args.less.now c.args.more.now c.args.docket.now.bands bs i c.sale_at-in-loop-place.result c.sale_at.result c.saturating_sub-sold.result c.saturating_sub.result (c.as_slice-band-items.ensures.value ∙ ap (λ v. v.bands) c.docket.view_is) c.loop-place-test.true c.sale_at.ensures c.sale_at-in-loop-place.ensures c.saturating_sub-sold.ensures c.saturating_sub.ensures in
     omega (arith, is, counted-most c.args.multipliers.now c.args.less.now c.args.more.now (get_or bs i no_band) r)
 
 pub overflow_add-above : goal.overflow_add-above
@@ -56,17 +55,17 @@ overflow_add-above c =
     let d = c.args.docket.now in
     let bs = c.as_slice-band-items.result.now in
     let i = c.loop-place.place in
-    let r = band_ranged d i bs c.as_slice-band-items.ensures.value c.loop-place-test.true in
-    let is = counted-at c.args.multipliers.now c.args.less.now c.args.more.now c.args.docket.now.bands bs i c.sale_at-in-loop-place.result c.sale_at.result c.saturating_sub-sold.result c.saturating_sub.result c.as_slice-band-items.ensures.value c.loop-place-test.true c.sale_at.ensures c.sale_at-in-loop-place.ensures c.saturating_sub-sold.ensures c.saturating_sub.ensures in
-    omega (arith, is, counted-most c.args.multipliers.now c.args.less.now c.args.more.now (get_or bs i no_band) r, ap length c.as_slice-band-items.ensures.value, (ranged_docket d).few_bands)
+    let r = band_ranged c.docket.invariant i bs c.as_slice-band-items.ensures.value c.loop-place-test.true in
+    let is = counted-at c.args.multipliers.now c.args.less.now c.args.more.now c.args.docket.now.bands bs i c.sale_at-in-loop-place.result c.sale_at.result c.saturating_sub-sold.result c.saturating_sub.result (c.as_slice-band-items.ensures.value ∙ ap (λ v. v.bands) c.docket.view_is) c.loop-place-test.true c.sale_at.ensures c.sale_at-in-loop-place.ensures c.saturating_sub-sold.ensures c.saturating_sub.ensures in
+    omega (arith, is, counted-most c.args.multipliers.now c.args.less.now c.args.more.now (get_or bs i no_band) r, ap length c.as_slice-band-items.ensures.value, c.docket.invariant.few_bands)
 
 pub loop-place-preserved : goal.loop-place-preserved
 loop-place-preserved c =
     let l = c.args.multipliers.now in
     let bs = c.as_slice-band-items.result.now in
     let i = c.loop-place.place in
-    let r = band_ranged c.args.docket.now i bs c.as_slice-band-items.ensures.value c.loop-place-test.true in
-    let is = counted-at c.args.multipliers.now c.args.less.now c.args.more.now c.args.docket.now.bands bs i c.sale_at-in-loop-place.result c.sale_at.result c.saturating_sub-sold.result c.saturating_sub.result c.as_slice-band-items.ensures.value c.loop-place-test.true c.sale_at.ensures c.sale_at-in-loop-place.ensures c.saturating_sub-sold.ensures c.saturating_sub.ensures in (
+    let r = band_ranged c.docket.invariant i bs c.as_slice-band-items.ensures.value c.loop-place-test.true in
+    let is = counted-at c.args.multipliers.now c.args.less.now c.args.more.now c.args.docket.now.bands bs i c.sale_at-in-loop-place.result c.sale_at.result c.saturating_sub-sold.result c.saturating_sub.result (c.as_slice-band-items.ensures.value ∙ ap (λ v. v.bands) c.docket.view_is) c.loop-place-test.true c.sale_at.ensures c.sale_at-in-loop-place.ensures c.saturating_sub-sold.ensures c.saturating_sub.ensures in (
       omega (arith, is, sold_more l c.args.less.now c.args.more.now bs i no_band c.loop-place-test.true),
       omega (arith, is, counted-most l c.args.less.now c.args.more.now (get_or bs i no_band) r),
     )

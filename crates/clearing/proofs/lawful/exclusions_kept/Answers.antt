@@ -1,5 +1,5 @@
 -- `exclusions_kept`: the taken member that stands for a group is compared with each that comes after it.
-use Rattle.std.proofs.Common.{◌≡◌, ◌-◌, ℕ, Some, None, get_or, sym, subst, ◌∙◌}
+use Rattle.std.proofs.Common.{◌≡◌, ◌-◌, ℕ, Some, None, get_or, sym, ap, subst, ◌∙◌}
 use Rattle.clearing.specs.Kept.{ExclusionsKept}
 use Rattle.clearing.proofs.Held.{no_exclusion}
 use Rattle.clearing.proofs.Exclusions.{one_member, firsts_passed, firsts_taken, firsts_differ, firsts_all}
@@ -19,9 +19,9 @@ loop-exclusion-preserved c =
             | in_default-via-in-Some+else-other-member v ↦ one_member _ _ (sym is ∙ v.in-Some.is) ∙ v.if-other-member.false
             | in_default-via-in_default v ↦ cc
           ] in
-          firsts_taken c.args.docket.now xs c.as_slice-exclusion-items.ensures.value c.args.tally.now.takes here.exclusion-index here.first c.loop-exclusion-test.true here.invariant _ w.if-tally-member.true free w.first-is
+          firsts_taken c.docket.invariant xs c.as_slice-exclusion-items.ensures.value c.args.tally.now.takes here.exclusion-index here.first c.loop-exclusion-test.true here.invariant _ w.if-tally-member.true free w.first-is
       | else-tally-member w ↦
-          firsts_passed c.args.docket.now xs c.as_slice-exclusion-items.ensures.value c.args.tally.now.takes here.exclusion-index here.first c.loop-exclusion-test.true here.invariant _ w.if-tally-member.false w.first-is
+          firsts_passed c.docket.invariant xs c.as_slice-exclusion-items.ensures.value c.args.tally.now.takes here.exclusion-index here.first c.loop-exclusion-test.true here.invariant _ w.if-tally-member.false w.first-is
     ]
 
 pub returns-in-Some : goal.returns-in-Some
@@ -29,12 +29,12 @@ returns-in-Some c =
     let xs = c.as_slice-exclusion-items.result.now in
     let here = c.loop-exclusion in
     decided_false (λ kept.
-    firsts_differ c.args.docket.now xs c.as_slice-exclusion-items.ensures.value c.args.tally.now.takes here.exclusion-index here.first c.loop-exclusion-test.true here.invariant
+    firsts_differ c.docket.invariant xs c.as_slice-exclusion-items.ensures.value c.args.tally.now.takes here.exclusion-index here.first c.loop-exclusion-test.true here.invariant
     c.if-tally-member.true c.in-Some.other c.in-Some.is c.if-other-member.true
-    (subst (λ es. ExclusionsKept es c.args.tally.now.takes) (sym c.as_slice-exclusion-items.ensures.value) kept))
+    (subst (λ es. ExclusionsKept es c.args.tally.now.takes) (sym (c.as_slice-exclusion-items.ensures.value ∙ ap (λ v. v.exclusions) c.docket.view_is)) kept))
 
 pub returns : goal.returns
 returns c =
     let xs = c.as_slice-exclusion-items.result.now in
-    decided_true (subst (λ es. ExclusionsKept es c.args.tally.now.takes) c.as_slice-exclusion-items.ensures.value
-    (firsts_all c.args.docket.now xs c.as_slice-exclusion-items.ensures.value c.args.tally.now.takes c.loop-exclusion.exclusion-index c.loop-exclusion.first c.loop-exclusion-test.false c.loop-exclusion.invariant))
+    decided_true (subst (λ es. ExclusionsKept es c.args.tally.now.takes) (c.as_slice-exclusion-items.ensures.value ∙ ap (λ v. v.exclusions) c.docket.view_is)
+    (firsts_all c.docket.invariant xs c.as_slice-exclusion-items.ensures.value c.args.tally.now.takes c.loop-exclusion.exclusion-index c.loop-exclusion.first c.loop-exclusion-test.false c.loop-exclusion.invariant))

@@ -9,8 +9,8 @@ use Rattle.clearing.proofs.lawful.pairs_kept.Goals as goal
 
 pub all-requires-clause-callable : goal.all-requires-clause-callable
 all-requires-clause-callable c =
-    let d = c.args.docket.now in
+    let d = c.docket.inside in
     serves_from_places (YieldsList-from_slice d.pairs cc) (λ x q h. search rules)
     (λ x k h e.
-    let r = pair_ranges x.now (each_item (fits pair_layout) d.pairs k x.now h e d.pairs_fit) in
+    let r = pair_ranges x.now (each_item (fits pair_layout) d.pairs k x.now h e c.docket.invariant.pairs) in
     search (rules, arith))

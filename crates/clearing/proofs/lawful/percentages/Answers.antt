@@ -25,7 +25,7 @@ loop-limit-preserved c =
     let more = ap (λ ls. row (percentage ls) 1 4) (sym (take_more ls i no_limit inside)) in
     elim c.if-is_on.branch [
       | then-is_on w ↦
-          let ranges = limit_ranged c.args.docket.now i ls c.as_slice-limit-items.ensures.value inside in
+          let ranges = limit_ranged c.docket.invariant i ls c.as_slice-limit-items.ensures.value inside in
           let is = eqb-true l.sort 3 (sym w.if-is_on.ensures) in
           lesser_set _ _ _ _ _ _ w.least-is (omega arith) c.loop-limit.invariant
           ∙ percentages_set (take i ls) l is ranges.zone_least (ranges.percentage_zone is)

@@ -12,9 +12,9 @@ use Rattle.clearing.proofs.lawful.zones_kept.Goals as goal
 
 pub all-requires-clause-callable : goal.all-requires-clause-callable
 all-requires-clause-callable c =
-    let d = c.args.docket.now in
+    let d = c.docket.inside in
     serves_from_places (YieldsList-from_slice d.limits cc) (λ x q h. search rules)
-    (λ x k h e. let ok = each_item (fits limit_layout) d.limits k x.now h e d.limits_fit in search (rules, ok))
+    (λ x k h e. let ok = each_item (fits limit_layout) d.limits k x.now h e c.docket.invariant.limits in search (rules, ok))
 
 pub returns : goal.returns
 returns c =

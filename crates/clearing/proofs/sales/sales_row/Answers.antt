@@ -11,6 +11,6 @@ loop-band-preserved c =
     let i = c.loop-band.band-index in
     let held = c.as_slice-band-items.ensures.value in
     let inside = c.loop-band-test.true in
-    let ranges = band_ranged c.args.docket.now i bs held inside in
+    let ranges = band_ranged c.docket.invariant i bs held inside in
     ap₂ (λ xs n. set xs ((get_or bs i no_band).number - 1) n) c.loop-band.invariant c.sale.ensures
-    ∙ served_more c.args.supply.now bs i no_band inside (ap rising held ∙ c.args.docket.now.bands_rise) ranges.number_least
+    ∙ served_more c.args.supply.now bs i no_band inside (ap rising held ∙ c.docket.invariant.order.numbers) ranges.number_least

@@ -23,25 +23,29 @@ added-supply t p =
 
 pub add_supply-requires : goal.add_supply-requires
 add_supply-requires c =
-    let t = YieldsList-turn (walk c.args.docket.now c.args.choice c.into_iter-package-iterator.result cc) c.loop-package.yielded _ c.loop-package.yielded_by _ c.next.new.self c.in-Some.package c.in-Some.is c.next.ensures.steps in
-    let room = next-room c.args.docket.now c.args.choice _ _ t in
+    let t = YieldsList-turn (walk c.taken-package-items.ensures.ranged c.args.choice c.into_iter-package-iterator.result cc) c.loop-package.yielded _ c.loop-package.yielded_by _ c.next.new.self c.in-Some.package c.in-Some.is c.next.ensures.steps in
+    let room = next-room c.taken-package-items.ensures.ranged c.args.choice _ _ t in
     record {
       room = subst (λ (xs : List ℕ). list_all (λ n. leb n 390000000) xs ≡ true) (sym c.loop-package.invariant) room.supply;
-      fits = next-fits c.args.docket.now c.args.choice _ _ t;
+      fits = next-fits c.taken-package-items.ensures.ranged c.args.choice _ _ t;
     }
 
 pub loop-package-preserved : goal.loop-package-preserved
 loop-package-preserved c =
-    let t = YieldsList-turn (walk c.args.docket.now c.args.choice c.into_iter-package-iterator.result cc) c.loop-package.yielded _ c.loop-package.yielded_by _ c.next.new.self c.in-Some.package c.in-Some.is c.next.ensures.steps in
+    let t = YieldsList-turn (walk c.taken-package-items.ensures.ranged c.args.choice c.into_iter-package-iterator.result cc) c.loop-package.yielded _ c.loop-package.yielded_by _ c.next.new.self c.in-Some.package c.in-Some.is c.next.ensures.steps in
     c.add_supply.ensures
     ∙ ap (λ xs. plus xs (row (λ m. supplied m c.in-Some.package.now.terms) 1 5)) c.loop-package.invariant
     ∙ added-supply (tally_of (take (length c.loop-package.yielded) (taken c.args.docket.now.packages c.args.choice))) c.in-Some.package.now
-    ∙ ap (λ (t : Tally). t.supply) (next-added c.args.docket.now c.args.choice _ _ t)
+    ∙ ap (λ (t : Tally). t.supply) (next-added c.taken-package-items.ensures.ranged c.args.choice _ _ t)
     ∙ ap (λ n. supplies_of (take n (taken c.args.docket.now.packages c.args.choice))) (sym (length_push c.loop-package.yielded c.in-Some.package))
 
 pub returns : goal.returns
 returns c =
-    let t = YieldsList-end (walk c.args.docket.now c.args.choice c.into_iter-package-iterator.result cc) c.loop-package.yielded _ c.loop-package.yielded_by _ c.next.new.self c.in-None.is c.next.ensures.steps in
-    c.loop-package.invariant
-    ∙ ap (λ n. supplies_of (take n (taken c.args.docket.now.packages c.args.choice))) t.1
-    ∙ ap supplies_of (take-length _)
+    let t = YieldsList-end (walk c.taken-package-items.ensures.ranged c.args.choice c.into_iter-package-iterator.result cc) c.loop-package.yielded _ c.loop-package.yielded_by _ c.next.new.self c.in-None.is c.next.ensures.steps in
+    record {
+      supply =
+          c.loop-package.invariant
+          ∙ ap (λ n. supplies_of (take n (taken c.args.docket.now.packages c.args.choice))) t.1
+          ∙ ap supplies_of (take-length _);
+      ranged = c.taken-package-items.ensures.ranged;
+    }

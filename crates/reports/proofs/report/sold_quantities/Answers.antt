@@ -9,11 +9,10 @@ use Rattle.reports.proofs.report.sold_quantities.Goals as goal
 
 pub collect-requires-clause-can : goal.collect-requires-clause-can
 collect-requires-clause-can c =
-    let d = c.args.docket.now in
-    let bands = d.bands in (
+    let bands = c.docket.inside.bands in (
       tt,
       serves_from_places (YieldsList-from_slice bands cc) (λ x q k. search rules)
           (λ x i inside is.
-          let ranges = subst OpenRanges (sym (get_or_read bands i x.now inside is no_band)) (band_ranged d i bands refl inside) in
+          let ranges = subst OpenRanges (sym (get_or_read bands i x.now inside is no_band)) (band_ranged c.docket.invariant i bands refl inside) in
           (λ _ _ _ _ _ _. omega arith, λ _ _ _ _ _ _. omega arith, λ _ _ _ _ _ _ _. omega arith)),
     )

@@ -4,7 +4,7 @@ use Rattle.std.specs.Int.{int_min}
 use Rattle.std.proofs.lemmas.Int.{ints, clamps}
 use Rattle.std.proofs.lemmas.List.{map-set, set-get_or, get_or-map, length-map, length-set, take-append-drop, take_all, with_items_is}
 use Rattle.std.proofs.lemmas.List.Sums.{fold-append, fold_more}
-use Rattle.clearing.specs.Lawful.{View, view}
+use Rattle.clearing.specs.Lawful.{View}
 use Rattle.bounds.specs.Blocks.{Span, Answers}
 use Rattle.bounds.specs.Rules.{smaller, joined, chained}
 use Rattle.bounds.proofs.chains.ChainBoundingRule.consult.Goals as goal
@@ -49,7 +49,7 @@ module _ {B : Type 0} (answers : B → Answers) (others : List Answers) (rules :
 pub returns-in-None-clause-answer : goal.returns-in-None-clause-answer
 returns-in-None-clause-answer g c block =
     let answers = g.B.BoundingRule.answers in
-    chained-none (view c.args.docket.now) c.args.block (answers c.args.self.now.first) (map answers c.args.self.now.others.items)
+    chained-none c.args.docket.now c.args.block (answers c.args.self.now.first) (map answers c.args.self.now.others.items)
     (sym c.in-None.is ∙ c.consult.ensures.answer block)
 
 pub loop-rule-init : goal.loop-rule-init
@@ -64,7 +64,7 @@ pub returns-in-None-consult-clause-answer : goal.returns-in-None-consult-clause-
 returns-in-None-consult-clause-answer g c block =
     let inside : c.loop-rule.rule-index < length c.loop-rule.rule-items = omega (arith, c.loop-rule.auto.rule-items) in
     one_more-none g.B.BoundingRule.answers _ c.loop-rule.rule-items c.loop-rule.invariant.same c.loop-rule.rule-index c.rule-item.result inside
-    (g.B.BoundingRule.answers c.args.self.now.first) (view c.args.docket.now) c.args.block _ (c.loop-rule.invariant.so_far block)
+    (g.B.BoundingRule.answers c.args.self.now.first) c.args.docket.now c.args.block _ (c.loop-rule.invariant.so_far block)
     (sym c.in-None-consult.is ∙ c.consult-in-loop-rule.ensures.answer block)
 
 pub returns-in-None-consult-clause-same : goal.returns-in-None-consult-clause-same
@@ -92,7 +92,7 @@ loop-rule-preserved g c =
       so_far = λ block.
           ap Some least
           ∙ one_more-some answers _ rules c.loop-rule.invariant.same i c.rule-item.result inside
-          (answers c.args.self.now.first) (view c.args.docket.now) c.args.block _ (c.loop-rule.invariant.so_far block)
+          (answers c.args.self.now.first) c.args.docket.now c.args.block _ (c.loop-rule.invariant.so_far block)
           c.in-Some-consult.other_cap (sym c.in-Some-consult.is ∙ c.consult-in-loop-rule.ensures.answer block);
     }
 
@@ -102,7 +102,7 @@ returns-clause-answer g c block =
     let all : length others ≤ c.loop-rule.rule-index =
     omega (arith, c.loop-rule.auto.rule-items, ap length c.loop-rule.invariant.same, length-map c.loop-rule.rule-items g.B.BoundingRule.answers) in
     c.loop-rule.invariant.so_far block
-    ∙ ap (λ l. chained (g.B.BoundingRule.answers c.args.self.now.first) l (view c.args.docket.now) c.args.block) (take_all c.loop-rule.rule-index others all)
+    ∙ ap (λ l. chained (g.B.BoundingRule.answers c.args.self.now.first) l c.args.docket.now c.args.block) (take_all c.loop-rule.rule-index others all)
 
 pub returns-clause-same : goal.returns-clause-same
 returns-clause-same g c =

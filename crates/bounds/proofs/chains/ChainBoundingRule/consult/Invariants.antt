@@ -1,6 +1,5 @@
 -- What the loop of `consult` keeps true: the rules keep their meanings, and the cap is that of the first and the others so far.
 use Rattle.std.proofs.Common.{map, take, Some, ◌≡◌}
-use Rattle.clearing.specs.Lawful.{view}
 use Rattle.bounds.specs.Blocks.{InDocket}
 use Rattle.bounds.specs.Rules.{chained}
 use Rattle.bounds.proofs.chains.ChainBoundingRule.consult.Given as goal
@@ -12,6 +11,6 @@ invariant-loop-rule g l =
     record {
       same : map answers l.rule-items ≡ others;
       so_far :
-          InDocket (view l.docket) l.block
-          → Some l.cap ≡ chained (answers l.fn.self.first) (take l.rule-index others) (view l.docket) l.block;
+          InDocket l.docket l.block
+          → Some l.cap ≡ chained (answers l.fn.self.first) (take l.rule-index others) l.docket l.block;
     }

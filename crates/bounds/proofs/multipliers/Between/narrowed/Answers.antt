@@ -5,7 +5,7 @@ use Rattle.bounds.proofs.Supplies.{Few}
 use Rattle.bounds.proofs.multipliers.Between.narrowed.Goals as goal
 
 pub together-supply-requires-clause-one : goal.together-supply-requires-clause-one
-together-supply-requires-clause-one c = subst Few (sym c.requires) (taken-bounded c.args.docket.now c.args.block.first).supply
+together-supply-requires-clause-one c = subst Few (sym c.requires) (taken-bounded c.supply_of-worthwhile.ensures.ranged c.args.block.first).supply
 
 pub together-supply-requires-clause-other : goal.together-supply-requires-clause-other
-together-supply-requires-clause-other c = subst Few (sym c.supply_of-worthwhile.ensures) (taken-bounded c.args.docket.now c.gainful_choice.result).supply
+together-supply-requires-clause-other c = subst Few (sym c.supply_of-worthwhile.ensures.supply) (taken-bounded c.supply_of-worthwhile.ensures.ranged c.gainful_choice.result).supply

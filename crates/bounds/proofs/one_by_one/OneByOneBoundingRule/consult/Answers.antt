@@ -3,7 +3,7 @@ use Rattle.std.proofs.Common.{◌≡◌, ℕ, ◌+◌, ◌^◌, ◌<◌, pos, �
 use Rattle.std.specs.Int.{int_max}
 use Rattle.std.proofs.lemmas.Nat.{one_shl}
 use Rattle.std.proofs.lemmas.Int.{ints, clamps}
-use Rattle.clearing.specs.Lawful.{View, view}
+use Rattle.clearing.specs.Lawful.{View}
 use Rattle.bounds.specs.Rules.{unlimited, lone_gains}
 use Rattle.bounds.proofs.one_by_one.OneByOneBoundingRule.consult.Goals as goal
 
@@ -16,7 +16,7 @@ overflow_add-cap c = omega (arith, ints, clamps, c.block.invariant.few)
 
 pub loop-digit-preserved : goal.loop-digit-preserved
 loop-digit-preserved c =
-    let v = view c.args.docket.now in
+    let v = c.args.docket.now in
     let first = c.block.inside.first in
     let digit = c.loop-digit.digit in
     let small : digit < 64 = omega (arith, c.block.invariant.few) in

@@ -4,22 +4,31 @@ use Rattle.offers.specs.Memory.{entries_in}
 use Rattle.offers.proofs.Soundness.{sound-held}
 use Rattle.clearing.specs.Bands.{aheads, true_aheads}
 use Rattle.clearing.specs.Closing.{open_from}
-use Rattle.clearing.specs.Lawful.{view, nothing_open}
+use Rattle.clearing.specs.Lawful.{nothing_open}
 use Rattle.clearing.proofs.Openings.{bands_rise, bands-ahead}
 use Rattle.clearing.proofs.Pricings.{at_price, priced_all}
 use Rattle.clearing.proofs.Closings.{closing-priced, docket_is}
 use Rattle.clearing.proofs.OpenDockets.{closing_open}
 use Rattle.clearing.proofs.dockets.Docket.close.Goals as goal
 
-pub invariant_of-self-clause-bands_rise : goal.invariant_of-self-clause-bands_rise
-invariant_of-self-clause-bands_rise g c = rw c.copy_bands.ensures.items (bands_rise c.args.offers.now.bands.entries)
-
-pub invariant_of-self-clause-bands_ahead : goal.invariant_of-self-clause-bands_ahead
-invariant_of-self-clause-bands_ahead g c = subst (λ bs. aheads bs ≡ true_aheads bs) (sym c.copy_bands.ensures.items) (bands-ahead c.args.offers.now.bands.entries)
+pub invariant_of-self : goal.invariant_of-self
+invariant_of-self g c = record {
+  few_packages = c.copy_packages.ensures.few;
+  few_bands = c.copy_bands.ensures.few;
+  packages = c.copy_packages.ensures.fit;
+  bands = c.copy_bands.ensures.fit;
+  order = record {
+    numbers = rw c.copy_bands.ensures.items (bands_rise c.args.offers.now.bands.entries);
+    ahead = subst (λ bs. aheads bs ≡ true_aheads bs) (sym c.copy_bands.ensures.items) (bands-ahead c.args.offers.now.bands.entries);
+  };
+  pairs = c.copy_open.ensures.fit;
+  exclusions = c.copy_open-2.ensures.fit;
+  limits = c.copy_open-3.ensures.fit;
+}
 
 pub returns : goal.returns
 returns g c =
-    let before = view c.args.self.now in
+    let before = c.args.self.now in
     let all = entries_in c.args.offers.now in
     let meaning = g.P.PriceRule.meaning c.args.rule.now in
     let prices = c.in_ok-prices.prices in

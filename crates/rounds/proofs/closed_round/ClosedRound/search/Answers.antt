@@ -5,7 +5,7 @@ use Rattle.rounds.specs.Model.{Search, Found}
 use Rattle.rounds.specs.Views.{of_closed, of_searched, gave}
 use Rattle.std.proofs.Common.{◌≡◌, ℕ, ◌<◌, ◌≤◌, sym, ap, ◌∙◌, subst, ⊎_elim, arith}
 use Rattle.std.proofs.lemmas.Bool.{cases_lt, eq-eqb}
-use Rattle.clearing.specs.Lawful.{View, view, choices}
+use Rattle.clearing.specs.Lawful.{View, choices}
 use Rattle.bounds.specs.Blocks.{Answers}
 use Rattle.search.specs.Search.{Standing, Placed, after_steps}
 use Rattle.search.proofs.Placings.{finished-stays}
@@ -38,7 +38,7 @@ pub returns-clause-falls : goal.returns-clause-falls
 returns-clause-falls g c some most = elim c.if-at-choices.branch [
   | then-at-choices w ↦ subst (λ (s : Searched). Falls s c.args.self.at) (sym w.next-is) tt
   | else-at-choices w ↦
-      let v = view c.args.self.docket in
+      let v = c.args.self.docket in
       let below = was_open (g.B.BoundingRule.answers c.args.rule.now) v c.args.steps c.args.self.at c.run-at.result c.args.self.placed (c.run-at.ensures.runs c.args.self.placed).steps
       (λ e. w.if-at-choices.false (ap (λ (a : Standing). a.settled) c.at.view_is ∙ e ∙ sym c.choices.ensures.count)) in
       subst (λ (s : Searched). Falls s c.args.self.at) (sym w.next-is) (c.run-at.ensures.falls some (subst (λ (n : ℕ). c.args.self.at.settled < n) (sym c.choices.ensures.count ∙ c.choices.ensures.value) below))

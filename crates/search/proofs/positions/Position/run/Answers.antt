@@ -1,7 +1,7 @@
 -- `run`: each turn is one step, and what is left to do is the rest.
 use Rattle.std.proofs.Common.{◌≡◌, suc, ◌+◌, ◌-◌, ◌<◌, ◌≤◌, true, sym, ap, ◌∙◌, subst, arith}
 use Rattle.std.proofs.lemmas.Bool.{eq-eqb}
-use Rattle.clearing.specs.Lawful.{view, choices}
+use Rattle.clearing.specs.Lawful.{choices}
 use Rattle.clearing.proofs.ClosedRanges.{ranged-closing}
 use Rattle.clearing.proofs.Judged.{worth_tells}
 use Rattle.search.specs.Search.{Standing, Placed, Leads, finished, after_step, after_steps}
@@ -11,7 +11,7 @@ use Rattle.search.proofs.positions.Position.run.Goals as goal
 
 pub loop-preserved : goal.loop-preserved
 loop-preserved g c =
-    let v = view c.args.docket.now in
+    let v = c.args.docket.now in
     let rule = g.B.BoundingRule.answers c.args.rule.now in
     let at = c.loop.at in
     let so_far = c.loop.invariant in
@@ -34,7 +34,7 @@ loop-preserved g c =
 pub returns-after-loop-clause-runs : goal.returns-after-loop-clause-runs
 returns-after-loop-clause-runs g c = λ placed.
     let inv = c.loop.invariant in
-    let v = view c.args.docket.now in
+    let v = c.args.docket.now in
     record {
       steps = sym (inv.leads_on placed 0 (omega arith));
       placed = inv.placed placed;
@@ -44,7 +44,7 @@ returns-after-loop-clause-runs g c = λ placed.
 
 pub returns-then-at-all-clause-runs : goal.returns-then-at-all-clause-runs
 returns-then-at-all-clause-runs g c = λ placed.
-    let v = view c.args.docket.now in
+    let v = c.args.docket.now in
     let inv = c.loop.invariant in
     let all : choices v ≤ c.loop.at.settled = omega (arith, c.if-at-all.true, c.choices-all.ensures.count, ap (λ (a : Standing). a.settled) c.at.view_is) in
     let most = (inv.placed placed).most in
