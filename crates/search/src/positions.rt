@@ -3,7 +3,8 @@
 ghost use Rattle.std.specs.Prelude.{◌≡◌, ◌+◌, ◌^◌, ◌<◌, ◌≤◌, length};
 ghost use Rattle.clearing.specs.Lawful.{choices};
 ghost use Rattle.std.specs.Int.Count.{count_trailing_zeros};
-ghost use Rattle.search.specs.Search.{Standing};
+ghost use Rattle.clearing.specs.Judging.{worth_of};
+ghost use Rattle.search.specs.Search.{Standing, work_left, start_position, after_settling, after_halving, after_trial, StepsTo, RunsFrom};
 
 use bounds::{Block, BoundingRule};
 use clearing::{Docket, worth};
@@ -31,9 +32,6 @@ impl Model for Position {
 }
 
 impl Position {
-    ghost use Rattle.clearing.specs.Judging.{worth_of};
-    ghost use Rattle.search.specs.Search.{work_left, start_position, after_settling, after_halving, after_trial};
-
     /// A search begins with choice 0, which takes nothing, settled and leading.
     pub fn start() -> Position
         ensures { result ≡ start_position }
@@ -43,6 +41,44 @@ impl Position {
             free: 0,
             leader: 0,
             surplus: 0,
+        }
+    }
+
+    /// Makes the steps that it is given, or fewer if every choice is settled before. As many steps as there are packages settle
+    /// at least one choice, and a leader that was the best of the settled choices is so again.
+    pub fn run<B: BoundingRule>(self, docket: &Docket, rule: &mut B, steps: u32) -> Position
+        ensures runs { RunsFrom (B.BoundingRule.answers rule.old) docket.now steps self result }
+        ensures falls { 0 < steps → self.settled < 2 ^ length docket.now.packages → work_left result < work_left self }
+        ensures same_rule { B.BoundingRule.answers rule.new ≡ B.BoundingRule.answers rule.old }
+    {
+        let all = choices(docket);
+        let mut at = self;
+        for _ in 0..steps {
+            if at.settled >= all {
+                break;
+            }
+            at = at.step(docket, rule);
+        }
+        at
+    }
+
+    // One step of a search that is not finished.
+    fn step<B: BoundingRule>(self, docket: &Docket, rule: &mut B) -> Position
+        requires below { self.settled < 2 ^ 40 }
+        requires few { choices docket.now ≤ 2 ^ 40 }
+        ensures falls { work_left result < work_left self }
+        ensures value { StepsTo (B.BoundingRule.answers rule.old) docket.now self result }
+        ensures same_rule { B.BoundingRule.answers rule.new ≡ B.BoundingRule.answers rule.old }
+    {
+        let block = Block {
+            first: self.settled,
+            free: self.free,
+        };
+        match rule.consult(docket, block) {
+            None => self.skip(),
+            Some(cap) if cap <= self.surplus => self.skip(),
+            Some(_) if self.free > 0 => self.halve(),
+            Some(_) => self.try_choice(docket),
         }
     }
 
@@ -96,49 +132,6 @@ impl Position {
         ensures value { result ≡ after_settling (after_trial self (worth_of docket.now self.settled)) 1 }
     {
         self.lead(docket).settle(1)
-    }
-}
-
-impl Position {
-    ghost use Rattle.std.specs.Prelude.{length};
-    ghost use Rattle.search.specs.Search.{StepsTo, RunsFrom, work_left};
-
-    /// Makes the steps that it is given, or fewer if every choice is settled before. As many steps as there are packages settle
-    /// at least one choice, and a leader that was the best of the settled choices is so again.
-    pub fn run<B: BoundingRule>(self, docket: &Docket, rule: &mut B, steps: u32) -> Position
-        ensures runs { RunsFrom (B.BoundingRule.answers rule.old) docket.now steps self result }
-        ensures falls { 0 < steps → self.settled < 2 ^ length docket.now.packages → work_left result < work_left self }
-        ensures same_rule { B.BoundingRule.answers rule.new ≡ B.BoundingRule.answers rule.old }
-    {
-        let all = choices(docket);
-        let mut at = self;
-        for _ in 0..steps {
-            if at.settled >= all {
-                break;
-            }
-            at = at.step(docket, rule);
-        }
-        at
-    }
-
-    // One step of a search that is not finished.
-    fn step<B: BoundingRule>(self, docket: &Docket, rule: &mut B) -> Position
-        requires below { self.settled < 2 ^ 40 }
-        requires few { choices docket.now ≤ 2 ^ 40 }
-        ensures falls { work_left result < work_left self }
-        ensures value { StepsTo (B.BoundingRule.answers rule.old) docket.now self result }
-        ensures same_rule { B.BoundingRule.answers rule.new ≡ B.BoundingRule.answers rule.old }
-    {
-        let block = Block {
-            first: self.settled,
-            free: self.free,
-        };
-        match rule.consult(docket, block) {
-            None => self.skip(),
-            Some(cap) if cap <= self.surplus => self.skip(),
-            Some(_) if self.free > 0 => self.halve(),
-            Some(_) => self.try_choice(docket),
-        }
     }
 }
 
