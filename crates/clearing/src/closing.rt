@@ -1,5 +1,6 @@
 //! Closing: the open records are copied into the docket, and each package is priced.
-ghost use Rattle.offers.specs.Tables.{PACKAGES, BANDS};
+ghost use Rattle.offers.specs.Registers.{IsLedger};
+ghost use Rattle.offers.specs.Tables.{PACKAGES, BANDS, package_layout, band_layout};
 ghost use Rattle.std.specs.List.{list_all};
 ghost use Rattle.std.specs.Prelude.{◌≡◌, ℕ, ◌+◌, ◌-◌, ◌≤◌, true, ◌&&◌, ◌||◌, map, pos, IfOk, IfErr, Ok, Err, MatchResult, ◌==◌, nat_lt, slice_index_or, ◌<◌, length};
 ghost use Rattle.offers.specs.Refusals.{Carries};
@@ -18,7 +19,7 @@ pub(crate) fn price_all<P: PriceRule>(
     rule: &mut P,
 ) -> Result<[i64; PACKAGES], Refusal>
     ensures fit { IfOk result (λ ps. list_all price_fits ps ≡ true) }
-    ensures answer { PricesOpen (P.PriceRule.meaning rule.old) ledger.now.entries result }
+    ensures answer { PricesOpen (P.PriceRule.meaning rule.old) ledger.now result }
     ensures same_rule { P.PriceRule.meaning rule.new ≡ P.PriceRule.meaning rule.old }
     ensures carries { IfErr result Carries }
 {
@@ -56,7 +57,8 @@ pub(crate) fn copy_packages(
     requires prices_fit { list_all price_fits prices.now ≡ true }
     ensures few { length into.new ≤ PACKAGES }
     ensures fit { list_all package_fits into.new ≡ true }
-    ensures items { into.new ≡ packages_at prices.now ledger.now.entries }
+    ensures items { into.new ≡ packages_at prices.now ledger.now }
+    ensures held { IsLedger package_layout PACKAGES ledger.now }
 {
     into.clear();
     for (i, entry) in ledger.entries.iter().enumerate() {
@@ -74,7 +76,8 @@ pub(crate) fn copy_packages(
 pub(crate) fn copy_bands(ledger: &Ledger<Band, BANDS>, into: &mut BoundedVec<OpenBand, BANDS>)
     ensures few { length into.new ≤ BANDS }
     ensures fit { list_all band_fits into.new ≡ true }
-    ensures items { into.new ≡ open_bands ledger.now.entries }
+    ensures items { into.new ≡ open_bands ledger.now }
+    ensures held { IsLedger band_layout BANDS ledger.now }
 {
     into.clear();
     for (i, entry) in ledger.entries.iter().enumerate() {
@@ -90,7 +93,7 @@ pub(crate) fn copy_bands(ledger: &Ledger<Band, BANDS>, into: &mut BoundedVec<Ope
 
 // The quantity of the open bands that are served before the band at a place of the register.
 fn ahead_of(ledger: &Ledger<Band, BANDS>, at: usize, band: &Band) -> u64
-    ensures value { result ≡ ahead_of (open_from 1 ledger.now.entries) (record { number = at + 1; terms = band.now }) }
+    ensures value { result ≡ ahead_of (open_from 1 ledger.now) (record { number = at + 1; terms = band.now }) }
     ensures bound { result ≤ MOST_ASKED }
 {
     let mut ahead = 0u64;
@@ -118,7 +121,8 @@ pub(crate) fn copy_open<R: Record, const N: usize>(
     into: &mut BoundedVec<R, N>,
 )
     ensures fit { list_all (fits R.Record.layout) into.new ≡ true }
-    ensures items { into.new ≡ open_records ledger.now.entries }
+    ensures items { into.new ≡ open_records ledger.now }
+    ensures held { IsLedger R.Record.layout N ledger.now }
 {
     into.clear();
     for entry in ledger.entries.iter() {

@@ -52,7 +52,6 @@ impl Model for Docket {
 
 impl Docket {
     ghost use Rattle.std.specs.Prelude.{IfOk, IfErr, Ok};
-    ghost use Rattle.offers.specs.Memory.{entries_in};
     ghost use Rattle.offers.specs.Refusals.{Carries};
     ghost use Rattle.clearing.specs.Choices.{taken, still_taken};
     ghost use Rattle.clearing.specs.Closing.{ByClosing, OfOpen, closing};
@@ -85,12 +84,12 @@ impl Docket {
 
     /// Makes the docket of what is open, priced by a rule; a price fault leaves the docket as it was.
     pub fn close<P: PriceRule>(&mut self, offers: &Offers, rule: &mut P) -> Result<(), Refusal>
-        ensures answer { result ≡ (closing self.old (entries_in offers.now) (P.PriceRule.meaning rule.old)).answer }
-        ensures after { self.new ≡ (closing self.old (entries_in offers.now) (P.PriceRule.meaning rule.old)).after }
+        ensures answer { result ≡ (closing self.old offers.now (P.PriceRule.meaning rule.old)).answer }
+        ensures after { self.new ≡ (closing self.old offers.now (P.PriceRule.meaning rule.old)).after }
         ensures same_rule { P.PriceRule.meaning rule.new ≡ P.PriceRule.meaning rule.old }
         // what a docket of a closing is, in words of the subject: laws of the definition that this call only carries
         ensures by_closing { result ≡ Ok tt → ByClosing self.new }
-        ensures of_open { result ≡ Ok tt → OfOpen (entries_in offers.now) (P.PriceRule.meaning rule.old) self.new }
+        ensures of_open { result ≡ Ok tt → OfOpen offers.now (P.PriceRule.meaning rule.old) self.new }
         ensures carries { IfErr result Carries }
     {
         let prices = price_all(&offers.packages, rule)?;

@@ -1,5 +1,5 @@
 -- What holds of one register lifted to the entries of every kind.
-use Rattle.std.proofs.Common.{◌≡◌, ℕ, List, get_or, Result, refl, sym, ap, ◌∙◌}
+use Rattle.std.proofs.Common.{◌≡◌, ℕ, List, get_or, Result, refl, sym, ap, ◌∙◌, subst}
 use Rattle.offers.specs.declared.refusals.Refusal.{Refusal}
 use Rattle.offers.specs.declared.registers.Entry.{Entry}
 use Rattle.offers.specs.declared.registers.Entry.TheVariants.{Vacant}
@@ -93,16 +93,19 @@ done all k o call is kept answer es e f =
     let l : with_entries all k es ≡ call.after = ap (with_entries all k) f ∙ ap (λ (c : Outcome Entries). c.after) (sym is) in
     record { answer_is = a; after_is = l; kept = rw (a, l) kept }
 
--- filing in the entries of a kind
-pub filed : (all : Entries) (n : ℕ) (x : Offer) (k : Kind) (r : RecordOf k) → file_offer all n x ≡ file_kind all n k r
+-- filing in the entries of a kind, of offers that hold them
+pub filed : {all held : Entries} → all ≡ held → (n : ℕ) (x : Offer) (k : Kind) (r : RecordOf k) → file_offer all n x ≡ file_kind all n k r
     → (answer : Result Unit Refusal) (es : List (Entry (RecordOf k)))
     → answer ≡ (filing (layout_of k) (entries_of all k) n r).answer → es ≡ (filing (layout_of k) (entries_of all k) n r).after
-    → Done all (file_offer all n x) answer (with_entries all k es)
-filed all n x k r is = done all k (filing (layout_of k) (entries_of all k) n r) (file_offer all n x) is (file_kept all n x)
+    → Done held (file_offer held n x) answer (with_entries all k es)
+filed {all} has n x k r is answer es e f =
+    subst (λ now. Done now (file_offer now n x) answer (with_entries all k es)) has
+    (done all k (filing (layout_of k) (entries_of all k) n r) (file_offer all n x) is (file_kept all n x) answer es e f)
 
--- withdrawing in the entries of a kind
-pub withdrawn : (all : Entries) (j : Kind) (n : ℕ) (k : Kind) → j ≡ k → (answer : Result Unit Refusal) (es : List (Entry (RecordOf k)))
+-- withdrawing in the entries of a kind, of offers that hold them
+pub withdrawn : {all held : Entries} → all ≡ held → (j : Kind) (n : ℕ) (k : Kind) → j ≡ k → (answer : Result Unit Refusal) (es : List (Entry (RecordOf k)))
     → answer ≡ (withdrawing (layout_of k) (entries_of all k) n).answer → es ≡ (withdrawing (layout_of k) (entries_of all k) n).after
-    → Done all (withdraw_offer all j n) answer (with_entries all k es)
-withdrawn all j n k is =
-    done all k (withdrawing (layout_of k) (entries_of all k) n) (withdraw_offer all j n) (ap (λ i. withdraw_offer all i n) is) (withdraw_kept all j n)
+    → Done held (withdraw_offer held j n) answer (with_entries all k es)
+withdrawn {all} has j n k is answer es e f =
+    subst (λ now. Done now (withdraw_offer now j n) answer (with_entries all k es)) has
+    (done all k (withdrawing (layout_of k) (entries_of all k) n) (withdraw_offer all j n) (ap (λ i. withdraw_offer all i n) is) (withdraw_kept all j n) answer es e f)

@@ -18,23 +18,9 @@ use Rattle.offers.specs.Refusals.{Carries}
 use Rattle.offers.specs.Registers.{Outcome, filing, withdrawing, Onward, InRange}
 use Rattle.offers.specs.Tables.{package_layout, band_layout, pair_layout, exclusion_layout, limit_layout, PACKAGES, BANDS, PAIRS, EXCLUSIONS, LIMITS}
 
--- The entries of all kinds, as plain lists: number n of a kind at place n - 1.
-pub record Entries : Type 0 where
-  pub packages : List (Entry Package)
-  pub bands : List (Entry Band)
-  pub pairs : List (Entry Pair)
-  pub exclusions : List (Entry Exclusion)
-  pub limits : List (Entry Limit)
-
--- what a round holds of its offers
-abbrev pub entries_in : Offers → Entries
-entries_in os = record {
-  packages = os.packages.entries;
-  bands = os.bands.entries;
-  pairs = os.pairs.entries;
-  exclusions = os.exclusions.entries;
-  limits = os.limits.entries;
-}
+-- the entries of all kinds: number n of a kind at place n - 1
+abbrev pub Entries : Type 0
+Entries = Offers
 
 -- the records of a kind
 abbrev pub RecordOf : Kind → Type 0

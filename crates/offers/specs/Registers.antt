@@ -91,3 +91,9 @@ entry_fault k (Withdrawn r) = fault_of k r
 -- every record of a register is in range
 abbrev pub InRange : {R : Type 0} → Layout R → List (Entry R) → Type 0
 InRange k es = (i : ℕ) → entry_fault k (slice_index_or es i Vacant) ≡ 0
+
+-- what a ledger of so many entries holds: one for each number, and every record in range
+pub record IsLedger {R : Type 0} (k : Layout R) (size : ℕ) (es : List (Entry R)) : Type 0 where
+  pub whole : length es ≡ size
+  pub numbered : length es ≡ k.count
+  pub in_range : InRange k es

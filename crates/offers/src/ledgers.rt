@@ -1,18 +1,27 @@
 //! A ledger: the entries of one kind, one for each offer number, every record of them in range.
-ghost use Rattle.std.specs.Prelude.{◌≡◌, length, replicate, ⊤};
-ghost use Rattle.offers.specs.Registers.{InRange};
+ghost use Rattle.std.specs.Prelude.{◌≡◌, List, replicate, ⊤};
+ghost use Rattle.offers.specs.Registers.{IsLedger};
+ghost use Rattle.offers.specs.declared.registers.Entry.{Entry};
 ghost use Rattle.offers.specs.declared.registers.Entry.TheVariants.{Vacant};
 
 use crate::records::Record;
 use crate::registers::Entry;
 use std::alloc::AllocError;
+use std::marker::Model;
 
 /// Number n stands at place n - 1.
 pub struct Ledger<R: Record, const N: usize> {
     pub entries: [Entry<R>; N],
-    ghost whole: { length entries ≡ N },
-    ghost numbered: { length entries ≡ R.Record.layout.count },
-    ghost in_range: { InRange R.Record.layout entries },
+}
+
+impl<R: Record, const N: usize> Model for Ledger<R, N> {
+    ghost Value = { List (Entry R) };
+
+    ghost view = { λ l. l.entries };
+
+    ghost invariant = { λ l. IsLedger R.Record.layout N l.entries };
+
+    ghost inverse = { λ es. record { entries = es } };
 }
 
 impl<R: Record, const N: usize> Copy for Ledger<R, N> {}
@@ -32,7 +41,7 @@ impl<R: Record, const N: usize> Ledger<R, N> {
     /// Every number is vacant.
     pub(crate) fn vacant() -> Ledger<R, N>
         requires { N ≡ R.Record.layout.count }
-        ensures { result.entries ≡ replicate N Vacant }
+        ensures { result ≡ replicate N Vacant }
     {
         Ledger {
             entries: [Entry::Vacant; N],

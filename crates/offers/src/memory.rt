@@ -42,11 +42,11 @@ pub struct Offers {
 
 impl Offers {
     ghost use Rattle.std.specs.Prelude.{◌≡◌};
-    ghost use Rattle.offers.specs.Memory.{entries_in, all_vacant, file_offer, withdraw_offer, Kept};
+    ghost use Rattle.offers.specs.Memory.{all_vacant, file_offer, withdraw_offer, Kept};
 
     /// The offers of a round that has none: every number is vacant.
     pub fn vacant() -> Offers
-        ensures { entries_in result ≡ all_vacant }
+        ensures { result ≡ all_vacant }
     {
         Offers {
             packages: Ledger::vacant(),
@@ -59,9 +59,9 @@ impl Offers {
 
     /// Makes a vacant number of the record's kind open.
     pub fn file(&mut self, number: u8, offer: Offer) -> Result<(), Refusal>
-        ensures answer { result ≡ (file_offer (entries_in self.old) number offer).answer }
-        ensures after { entries_in self.new ≡ (file_offer (entries_in self.old) number offer).after }
-        ensures kept { Kept (entries_in self.old) result (entries_in self.new) }
+        ensures answer { result ≡ (file_offer self.old number offer).answer }
+        ensures after { self.new ≡ (file_offer self.old number offer).after }
+        ensures kept { Kept self.old result self.new }
     {
         match offer {
             Offer::Package(new) => Register(&mut self.packages.entries).file(number, new),
@@ -74,9 +74,9 @@ impl Offers {
 
     /// Makes an open number of a kind withdrawn.
     pub fn withdraw(&mut self, kind: Kind, number: u8) -> Result<(), Refusal>
-        ensures answer { result ≡ (withdraw_offer (entries_in self.old) kind number).answer }
-        ensures after { entries_in self.new ≡ (withdraw_offer (entries_in self.old) kind number).after }
-        ensures kept { Kept (entries_in self.old) result (entries_in self.new) }
+        ensures answer { result ≡ (withdraw_offer self.old kind number).answer }
+        ensures after { self.new ≡ (withdraw_offer self.old kind number).after }
+        ensures kept { Kept self.old result self.new }
     {
         match kind {
             Kind::Package => Register(&mut self.packages.entries).withdraw(number),

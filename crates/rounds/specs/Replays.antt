@@ -1,6 +1,5 @@
 -- What a whole run of requests comes to.
 use Rattle.std.specs.Prelude.{◌≡◌, List, map, vec_items}
-use Rattle.offers.specs.Memory.{entries_in}
 use Rattle.rounds.specs.declared.replays.Stage.{Stage}
 use Rattle.rounds.specs.declared.replays.Stage.TheVariants as stage
 use Rattle.rounds.specs.declared.replays.Moment.{Moment}
@@ -15,7 +14,7 @@ of_stage (stage.Closed at) = AtClosed at
 of_stage (stage.Awarded at) = AtAwarded at
 
 abbrev pub moment_of : Moment → PlainMoment
-moment_of m = record { answer = answer_of m.reply; entries = entries_in m.offers; stage = of_stage m.stage }
+moment_of m = record { answer = answer_of m.reply; entries = m.offers; stage = of_stage m.stage }
 
 -- Calls that were made one after another, from an open and vacant round.
 pub record Replays (calls : List Call) (run : Run) : Type 0 where

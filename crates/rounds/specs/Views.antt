@@ -2,7 +2,6 @@
 use Rattle.std.specs.Prelude.{◌<◌, ◌≤◌, ◌≡◌, ℕ, ℤ, List, ◌∷◌, [], ◌++◌, replicate, Ok, Err, Result}
 use Rattle.std.specs.List.{AllByRecursion as Every}
 use Rattle.offers.specs.declared.refusals.Refusal.{Refusal}
-use Rattle.offers.specs.Memory.{entries_in}
 use Rattle.clearing.specs.Lawful.{View, nothing_open}
 use Rattle.bounds.specs.Blocks.{Answers}
 use Rattle.search.specs.Search.{Standing, work_left}
@@ -15,13 +14,13 @@ use Rattle.rounds.specs.Model.{step, Call, Search, Answer, State, IsOpen, IsClos
 use Rattle.rounds.specs.Promises.{LawfulCall, Promise, Keeps}
 
 abbrev pub of_open : OpenRound → PlainRound
-of_open r = plain_round (entries_in r.offers) IsOpen
+of_open r = plain_round r.offers IsOpen
 
 abbrev pub of_closed : ClosedRound → PlainRound
-of_closed r = plain_round (entries_in r.offers) (IsClosed r.docket r.at)
+of_closed r = plain_round r.offers (IsClosed r.docket r.at)
 
 abbrev pub of_awarded : AwardedRound → PlainRound
-of_awarded r = plain_round (entries_in r.offers) (IsAwarded r.docket r.at)
+of_awarded r = plain_round r.offers (IsAwarded r.docket r.at)
 
 abbrev pub of_searched : Searched → PlainRound
 of_searched (searched.Closed r) = of_closed r

@@ -48,16 +48,24 @@ impl ClosedRound {
             );
         }
         let ClosedRound {
-            offers,
             docket,
             at: from,
+            ..
         } = self;
         let at = from.run(&docket, rule, steps);
         let found = found(at);
         let next = if at.settled == choices(&docket) {
-            Searched::Awarded(AwardedRound { offers, docket, at })
+            Searched::Awarded(AwardedRound {
+                offers: self.offers,
+                docket,
+                at,
+            })
         } else {
-            Searched::Closed(ClosedRound { offers, docket, at })
+            Searched::Closed(ClosedRound {
+                offers: self.offers,
+                docket,
+                at,
+            })
         };
         (next, Ok(found))
     }

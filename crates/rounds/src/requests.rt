@@ -21,13 +21,12 @@ pub enum Round {
 }
 
 impl Round {
-    ghost use Rattle.offers.specs.Memory.{entries_in};
     ghost use Rattle.rounds.specs.Model.{stage_in};
     ghost use Rattle.rounds.specs.Replays.{of_stage};
 
     /// What the round holds.
     pub fn offers(&self) -> Offers
-        ensures { entries_in result ≡ (of_round self.now).entries }
+        ensures { result ≡ (of_round self.now).entries }
     {
         match self {
             Round::Open(round) => round.offers,

@@ -17,11 +17,12 @@ pub record Takes (all : Entries) (cursor : Cursor) (p : SheetField) (answer : Re
   pub answers : answer ≡ (enter_field all cursor p).answer
   pub leaves : after ≡ (enter_field all cursor p).after
 
--- what a content answers and leaves of its kind, said of the piece that has it
-pub takes : (all : Entries) (cursor : Cursor) (j k : Kind) (content rest : List ℕ) (answer : Result ℕ Refusal) (es : List (Entry (RecordOf k))) → j ≡ k
+-- what a content answers and leaves of its kind, said of the piece that has it, of offers that hold the kind's entries
+pub takes : {all held : Entries} → all ≡ held → (cursor : Cursor) (j k : Kind) (content rest : List ℕ) (answer : Result ℕ Refusal) (es : List (Entry (RecordOf k))) → j ≡ k
     → answer ≡ (enter_content (layout_of k) (entries_of all k) cursor content).answer
     → es ≡ (enter_content (layout_of k) (entries_of all k) cursor content).after
-    → Takes all cursor (record { kind = j; content = content; rest = rest }) answer (with_entries all k es)
-takes all cursor j k content rest answer es e f g =
-    subst (λ (x : Kind). Takes all cursor (record { kind = x; content = content; rest = rest }) answer (with_entries all k es)) (sym e)
-    (record { answers = f; leaves = ap (with_entries all k) g })
+    → Takes held cursor (record { kind = j; content = content; rest = rest }) answer (with_entries all k es)
+takes {all} has cursor j k content rest answer es e f g =
+    subst (λ (now : Entries). Takes now cursor (record { kind = j; content = content; rest = rest }) answer (with_entries all k es)) has
+    (subst (λ (x : Kind). Takes all cursor (record { kind = x; content = content; rest = rest }) answer (with_entries all k es)) (sym e)
+    (record { answers = f; leaves = ap (with_entries all k) g }))

@@ -126,9 +126,9 @@ length-five : (a b c d e : List ℕ) → length (a ++ (b ++ (c ++ (d ++ e)))) �
 length-five a b c d e = simp length-append (omega arith)
 
 -- a sheet is as long as its registers
-pub length_sheet : (all : Entries) → length (sheet_of all) ≡ length (kind_bytes all kind.Package) + length (kind_bytes all kind.Band) + length (kind_bytes all kind.Pair) + length (kind_bytes all kind.Exclusion) + length (kind_bytes all kind.Limit)
-length_sheet all =
-    length-five (kind_bytes all kind.Package) (kind_bytes all kind.Band) (kind_bytes all kind.Pair) (kind_bytes all kind.Exclusion) (kind_bytes all kind.Limit)
+pub length_sheet : {all held : Entries} → all ≡ held → length (sheet_of held) ≡ length (kind_bytes all kind.Package) + length (kind_bytes all kind.Band) + length (kind_bytes all kind.Pair) + length (kind_bytes all kind.Exclusion) + length (kind_bytes all kind.Limit)
+length_sheet {all} has =
+    rw (← has) (length-five (kind_bytes all kind.Package) (kind_bytes all kind.Band) (kind_bytes all kind.Pair) (kind_bytes all kind.Exclusion) (kind_bytes all kind.Limit))
 
 -- what writing a sheet answers and leaves
 pub record Writes (all : Entries) (before : List ℕ) (answer : Result ℕ Refusal) (after : List ℕ) : Type 0 where
@@ -136,8 +136,8 @@ pub record Writes (all : Entries) (before : List ℕ) (answer : Result ℕ Refus
   pub leaves : after ≡ (write_sheet all before).buffer
 
 -- a sheet that was written from the start
-pub writes : (all : Entries) (end n : ℕ) (before after : List ℕ) → n ≡ length (sheet_of all) → n ≤ length before → Put 0 end (sheet_of all) before after
-    → Writes all before (Ok n) after
-writes all end n before after e h p =
-    let fits = le-leb (length (sheet_of all)) (length before) (omega arith) in
-    record { answers = rw (fits, e); leaves = rw fits (put_whole end (sheet_of all) before after p) }
+pub writes : {all held : Entries} → all ≡ held → (end n : ℕ) (before after : List ℕ) → n ≡ length (sheet_of held) → n ≤ length before → Put 0 end (sheet_of all) before after
+    → Writes held before (Ok n) after
+writes {held} has end n before after e h p =
+    let fits = le-leb (length (sheet_of held)) (length before) (omega arith) in
+    record { answers = rw (fits, e); leaves = rw fits (put_whole end (sheet_of held) before after (rw (← has) p)) }

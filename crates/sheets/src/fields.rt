@@ -4,11 +4,11 @@ ghost use Rattle.offers.specs.Layouts.{fault_of};
 ghost use Rattle.offers.specs.Marks.{decoded};
 ghost use Rattle.offers.specs.Memory.{layout_of};
 ghost use Rattle.offers.specs.Refusals.{Carries};
-ghost use Rattle.offers.specs.Registers.{entry_fault};
+ghost use Rattle.offers.specs.Registers.{entry_fault, InRange};
 ghost use Rattle.sheets.specs.Views.{ReadAs};
 ghost use Rattle.sheets.specs.Fields.{content_size, refused_tagged, refused_number, split_field, rises, agrees, status_of, status_byte, status_withdrawn, entry_of, joined_entry, enter_content};
 
-use offers::{Code, Entry, Kind, Ledger, Record, Refusal, Unknown, place_of};
+use offers::{Code, Entry, Kind, Record, Refusal, Unknown, place_of};
 
 /// How far a reader has come on a sheet.
 #[derive(Clone, Copy)]
@@ -171,19 +171,22 @@ fn refused_number<R: Record>(code: Code, cursor: Cursor, number: u8) -> Refusal
     }
 }
 
-/// Enters a field's content in the ledger of its kind, and gives its offer number.
-pub(crate) fn enter_content<R: Record, const N: usize>(
-    ledger: &mut Ledger<R, N>,
+/// Enters a field's content in the entries of its kind, and gives its offer number.
+pub(crate) fn enter_content<R: Record>(
+    entries: &mut [Entry<R>],
     cursor: Cursor,
     content: &[u8],
 ) -> Result<u8, Refusal>
-    requires { length content.now ≡ content_size R.Record.layout }
-    ensures answer { result ≡ (enter_content R.Record.layout ledger.old.entries cursor content.now).answer }
-    ensures after { ledger.new.entries ≡ (enter_content R.Record.layout ledger.old.entries cursor content.now).after }
+    requires whole { length content.now ≡ content_size R.Record.layout }
+    requires in_range { InRange R.Record.layout entries.old }
+    ensures answer { result ≡ (enter_content R.Record.layout entries.old cursor content.now).answer }
+    ensures after { entries.new ≡ (enter_content R.Record.layout entries.old cursor content.now).after }
+    ensures in_range { InRange R.Record.layout entries.new }
+    ensures as_long { length entries.new ≡ length entries.old }
     ensures carries { IfErr result Carries }
 {
     let number = content[0];
-    let Some(at) = place_of(&ledger.entries, number) else {
+    let Some(at) = place_of(entries, number) else {
         return Err(refused_number::<R>(Code::NumberOutside, cursor, number));
     };
     if !rises(cursor, R::TAG, number) {
@@ -202,10 +205,10 @@ pub(crate) fn enter_content<R: Record, const N: usize>(
             ..refused_number::<R>(Code::FieldOutside, cursor, number)
         });
     }
-    let entry = ledger.entries[at];
+    let entry = entries[at];
     if !agrees(&entry, &sent) {
         return Err(refused_number::<R>(Code::Clash, cursor, number));
     }
-    ledger.entries[at] = joined_entry(entry, status, sent);
+    entries[at] = joined_entry(entry, status, sent);
     Ok(number)
 }

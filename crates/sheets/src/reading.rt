@@ -1,6 +1,6 @@
 //! Catching up: a sheet is read into a copy of the offers, which is stored once the whole sheet was in order.
 ghost use Rattle.std.specs.Prelude.{◌≡◌, length, IfErr};
-ghost use Rattle.offers.specs.Memory.{entries_in, layout_of};
+ghost use Rattle.offers.specs.Memory.{layout_of};
 ghost use Rattle.offers.specs.Refusals.{Carries};
 ghost use Rattle.sheets.specs.Fields.{content_size};
 ghost use Rattle.sheets.specs.Laws.{CaughtUp};
@@ -12,9 +12,9 @@ use offers::{Kind, Offers, Refusal};
 
 /// Brings the offers up to date from a whole sheet, or refuses it and leaves them as they were.
 pub fn catch_up(offers: &mut Offers, sheet: &[u8]) -> Result<(), Refusal>
-    ensures answer { result ≡ (catching_up (entries_in offers.old) sheet.now).answer }
-    ensures after { entries_in offers.new ≡ (catching_up (entries_in offers.old) sheet.now).after }
-    ensures caught_up { CaughtUp (entries_in offers.old) sheet.now result (entries_in offers.new) }
+    ensures answer { result ≡ (catching_up offers.old sheet.now).answer }
+    ensures after { offers.new ≡ (catching_up offers.old sheet.now).after }
+    ensures caught_up { CaughtUp offers.old sheet.now result offers.new }
 {
     let mut copy = *offers;
     let mut cursor = Cursor {
@@ -40,15 +40,15 @@ pub fn catch_up(offers: &mut Offers, sheet: &[u8]) -> Result<(), Refusal>
 // Enters a field in the ledger of its kind, and gives its offer number.
 fn enter_field(offers: &mut Offers, cursor: Cursor, field: SheetField<'_>) -> Result<u8, Refusal>
     requires { length field.content.now ≡ content_size (layout_of field.kind) }
-    ensures answer { result ≡ (enter_field (entries_in offers.old) cursor (plain_field field.entry)).answer }
-    ensures after { entries_in offers.new ≡ (enter_field (entries_in offers.old) cursor (plain_field field.entry)).after }
+    ensures answer { result ≡ (enter_field offers.old cursor (plain_field field.entry)).answer }
+    ensures after { offers.new ≡ (enter_field offers.old cursor (plain_field field.entry)).after }
     ensures carries { IfErr result Carries }
 {
     match field.kind {
-        Kind::Package => enter_content(&mut offers.packages, cursor, field.content),
-        Kind::Band => enter_content(&mut offers.bands, cursor, field.content),
-        Kind::Pair => enter_content(&mut offers.pairs, cursor, field.content),
-        Kind::Exclusion => enter_content(&mut offers.exclusions, cursor, field.content),
-        Kind::Limit => enter_content(&mut offers.limits, cursor, field.content),
+        Kind::Package => enter_content(&mut offers.packages.entries, cursor, field.content),
+        Kind::Band => enter_content(&mut offers.bands.entries, cursor, field.content),
+        Kind::Pair => enter_content(&mut offers.pairs.entries, cursor, field.content),
+        Kind::Exclusion => enter_content(&mut offers.exclusions.entries, cursor, field.content),
+        Kind::Limit => enter_content(&mut offers.limits.entries, cursor, field.content),
     }
 }

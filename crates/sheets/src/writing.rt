@@ -1,6 +1,6 @@
 //! Writing: every entry that is not vacant goes straight into the caller's buffer, by rising tag, then rising number.
 ghost use Rattle.std.specs.Prelude.{◌≡◌, ◌+◌, ◌*◌, ◌^◌, ◌<◌, ◌≤◌, ◌++◌, length, take, drop, IfErr};
-ghost use Rattle.offers.specs.Memory.{Sound, entries_in};
+ghost use Rattle.offers.specs.Memory.{Sound};
 ghost use Rattle.offers.specs.Refusals.{Carries};
 ghost use Rattle.sheets.specs.Fields.{content_size, status_byte};
 ghost use Rattle.sheets.specs.Laws.{Faithful};
@@ -11,10 +11,10 @@ use offers::{Code, Entry, Offers, Record, Refusal};
 
 /// Writes the sheet of the offers into the buffer's first bytes, and gives its length.
 pub fn write_sheet(offers: &Offers, buffer: &mut [u8]) -> Result<usize, Refusal>
-    ensures answer { result ≡ (write_sheet (entries_in offers.now) buffer.old).answer }
-    ensures after { buffer.new ≡ (write_sheet (entries_in offers.now) buffer.old).buffer }
+    ensures answer { result ≡ (write_sheet offers.now buffer.old).answer }
+    ensures after { buffer.new ≡ (write_sheet offers.now buffer.old).buffer }
     // what the sheet is to every round, a law of the entries that this call only carries
-    ensures faithful { Faithful (entries_in offers.now) }
+    ensures faithful { Faithful offers.now }
     ensures carries { IfErr result Carries }
 {
     let length = sheet_length(offers);
@@ -31,9 +31,9 @@ pub fn write_sheet(offers: &Offers, buffer: &mut [u8]) -> Result<usize, Refusal>
 
 /// The bytes of the offers' sheet, which is written from sound entries.
 pub fn sheet_length(offers: &Offers) -> usize
-    ensures value { result ≡ length (sheet_of (entries_in offers.now)) }
+    ensures value { result ≡ length (sheet_of offers.now) }
     // what any offers are, which this call only tells
-    ensures sound { Sound (entries_in offers.now) }
+    ensures sound { Sound offers.now }
 {
     register_length(&offers.packages.entries)
         + register_length(&offers.bands.entries)

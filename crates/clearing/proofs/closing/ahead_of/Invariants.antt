@@ -5,5 +5,5 @@ use Rattle.clearing.proofs.closing.ahead_of.Given as goal
 
 abbrev pub invariant-loop-i : goal.invariant-loop-i
 invariant-loop-i l =
-    (l.ahead ≡ ahead_so_far l.ledger.entries l.i (record { number = l.at + 1; terms = l.band }))
+    (l.ahead ≡ ahead_so_far l.ledger l.i (record { number = l.at + 1; terms = l.band }))
     × (l.ahead ≤ 100000000 * l.i)

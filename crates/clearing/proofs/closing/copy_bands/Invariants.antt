@@ -5,4 +5,4 @@ use Rattle.clearing.proofs.Openings.{with_ahead}
 use Rattle.clearing.proofs.closing.copy_bands.Given as goal
 
 abbrev pub invariant-loop-i : goal.invariant-loop-i
-invariant-loop-i l = Copied band_fits (with_ahead l.ledger.entries) l.ledger.entries l.i l.into
+invariant-loop-i l = Copied band_fits (with_ahead l.ledger) l.ledger l.i l.into

@@ -5,4 +5,4 @@ use Rattle.clearing.proofs.closing.copy_open.Given as goal
 
 abbrev pub invariant-loop-entry : goal.invariant-loop-entry
 invariant-loop-entry g l =
-    Copied (fits g.R.Record.layout) (λ r. r.terms) l.ledger.entries l.entry-index l.into
+    Copied (fits g.R.Record.layout) (λ r. r.terms) l.ledger l.entry-index l.into

@@ -5,4 +5,4 @@ use Rattle.clearing.proofs.Pricings.{at_price}
 use Rattle.clearing.proofs.closing.copy_packages.Given as goal
 
 abbrev pub invariant-loop-i : goal.invariant-loop-i
-invariant-loop-i l = Copied package_fits (at_price l.prices) l.ledger.entries l.i l.into
+invariant-loop-i l = Copied package_fits (at_price l.prices) l.ledger l.i l.into

@@ -8,10 +8,10 @@ use Rattle.clearing.proofs.closing.price_all.Goals.{in-Open+in-Ok, in_default}
 
 pub loop-i-preserved : goal.loop-i-preserved
 loop-i-preserved g c =
-    let es = c.args.ledger.now.entries in
+    let es = c.ledger.inside.entries in
     let i = c.loop-i.i in
-    let inv = c.loop-i.invariant in
-    elim c.match-entry.branch [
+    let inv = rw (← c.ledger.view_is) at c.loop-i.invariant in
+    rw (← c.ledger.view_is) (elim c.match-entry.branch [
       | in-Open+in-Ok w ↦
           let answer = w.in-Ok.ensures.answer in
           let between = subst Bounded (sym answer) (g.met.P.PriceRule.bounded c.loop-i.rule w.in-Open.package) in
@@ -21,17 +21,18 @@ loop-i-preserved g c =
           (ap g.P.PriceRule.meaning w.rule-is ∙ w.price.ensures.same)
       | in_default w ↦
           none_priced _ _ es i c.loop-i.prices inv _ _ w.in_default.not-Open w.prices-is (ap g.P.PriceRule.meaning w.rule-is)
-    ]
+    ])
 
 pub returns-in-Err : goal.returns-in-Err
 returns-in-Err g c =
-    let inv = c.loop-i.invariant in
+    let inv = rw (← c.ledger.view_is) at c.loop-i.invariant in
     let fault = ap (λ m. m c.in-Open.package) (sym inv.same) ∙ sym c.in-Err.ensures.answer in
     record {
       fit = tt;
       answer =
-          refused_at _ c.args.ledger.now.entries c.loop-i.prices c.loop-i.i c.in-Open.package c.in-Err.fault inv.so c.in-Open.is fault
-          ∙ ap Err (sym c.price_fault.ensures);
+          rw (← c.ledger.view_is)
+          (refused_at _ c.ledger.inside.entries c.loop-i.prices c.loop-i.i c.in-Open.package c.in-Err.fault inv.so c.in-Open.is fault
+          ∙ ap Err (sym c.price_fault.ensures));
       same_rule = c.price.ensures.same ∙ inv.same;
       carries = rw c.price_fault.ensures (record { tag = tt; number = tt; field = refl; byte = refl; depth = tt });
     }

@@ -4,4 +4,4 @@ use Rattle.clearing.proofs.closing.price_all.Given as goal
 
 abbrev pub invariant-loop-i : goal.invariant-loop-i
 invariant-loop-i g l =
-    Pricing (g.P.PriceRule.meaning l.initial.rule) (g.P.PriceRule.meaning l.rule) l.ledger.entries l.i l.prices
+    Pricing (g.P.PriceRule.meaning l.initial.rule) (g.P.PriceRule.meaning l.rule) l.ledger l.i l.prices

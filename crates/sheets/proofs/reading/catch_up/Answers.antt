@@ -1,6 +1,5 @@
 -- `catch_up`: each turn takes one field off what is left.
 use Rattle.std.proofs.Common.{sym, ◌∙◌, arith, rules}
-use Rattle.offers.specs.Memory.{entries_in}
 use Rattle.sheets.specs.Views.{plain_field}
 use Rattle.sheets.proofs.CatchUps.{caught_since}
 use Rattle.sheets.proofs.Splits.{split_off}
@@ -16,7 +15,7 @@ loop-rest-preserved c =
     let p = plain_field c.in_ok-field.field in
     let fewer = split-shorter c.loop-rest.rest.now c.loop-rest.cursor.next_byte p c.in_ok-field.ensures.answer in
     let entered = sym c.enter_field.ensures.answer ∙ c.in_ok-number.was in
-    let next = catch_next (entries_in c.loop-rest.copy) c.loop-rest.cursor c.loop-rest.rest.now p c.in_ok-number.number c.in_ok-field.ensures.answer entered in
+    let next = catch_next c.loop-rest.copy c.loop-rest.cursor c.loop-rest.rest.now p c.in_ok-number.number c.in_ok-field.ensures.answer entered in
     (rw (c.enter_field.ensures.after, c.tag.ensures) (sym next ∙ c.loop-rest.invariant.0), omega arith)
 
 pub returns-in_err-field : goal.returns-in_err-field

@@ -1,6 +1,5 @@
 -- `close`: what was copied is what a closing makes of the entries.
 use Rattle.std.proofs.Common.{◌≡◌, map, Ok, sym, ap, ◌∙◌, subst}
-use Rattle.offers.specs.Memory.{entries_in}
 use Rattle.offers.proofs.Soundness.{sound-held}
 use Rattle.clearing.specs.Bands.{aheads, true_aheads}
 use Rattle.clearing.specs.Closing.{open_from}
@@ -18,8 +17,8 @@ invariant_of-self g c = record {
   packages = c.copy_packages.ensures.fit;
   bands = c.copy_bands.ensures.fit;
   order = record {
-    numbers = rw c.copy_bands.ensures.items (bands_rise c.args.offers.now.bands.entries);
-    ahead = subst (λ bs. aheads bs ≡ true_aheads bs) (sym c.copy_bands.ensures.items) (bands-ahead c.args.offers.now.bands.entries);
+    numbers = rw c.copy_bands.ensures.items (bands_rise c.args.offers.now.bands);
+    ahead = subst (λ bs. aheads bs ≡ true_aheads bs) (sym c.copy_bands.ensures.items) (bands-ahead c.args.offers.now.bands);
   };
   pairs = c.copy_open.ensures.fit;
   exclusions = c.copy_open-2.ensures.fit;
@@ -29,7 +28,7 @@ invariant_of-self g c = record {
 pub returns : goal.returns
 returns g c =
     let before = c.args.self.now in
-    let all = entries_in c.args.offers.now in
+    let all = c.args.offers.now in
     let meaning = g.P.PriceRule.meaning c.args.rule.now in
     let prices = c.in_ok-prices.prices in
     let ps = map (at_price prices) (open_from 1 all.packages) in
@@ -44,7 +43,7 @@ returns g c =
       by_closing = λ _. record {
         entries = all;
         meaning = meaning;
-        sound = sound-held c.args.offers.now;
+        sound = sound-held all c.copy_packages.ensures.held c.copy_bands.ensures.held c.copy_open.ensures.held c.copy_open-2.ensures.held c.copy_open-3.ensures.held;
         bounded = g.met.P.PriceRule.bounded c.args.rule.now;
         accepted = accepted;
       };

@@ -1,10 +1,9 @@
 -- `reopen`: it does what the plain round's step does.
 use Rattle.std.proofs.Common.{rules}
-use Rattle.offers.specs.Memory.{entries_in}
 use Rattle.rounds.specs.Model.{Reopen, Reopened, IsOpen, plain_round}
 use Rattle.rounds.specs.Views.{of_awarded, gave}
 use Rattle.rounds.proofs.Kept.{serves}
 use Rattle.rounds.proofs.awarded_round.AwardedRound.reopen.Goals as goal
 
 pub returns : goal.returns
-returns c = serves (of_awarded c.args.self) Reopen (gave (plain_round (entries_in c.args.self.offers) IsOpen) Reopened) tt (search rules)
+returns c = serves (of_awarded c.args.self) Reopen (gave (plain_round c.args.self.offers IsOpen) Reopened) tt (search rules)
