@@ -1,5 +1,5 @@
 -- What each bounding rule answers.
-use Rattle.std.specs.Prelude.{ℕ, zero, suc, ◌+◌, ◌-◌, ◌*◌, ◌^◌, Bool, ◌&&◌, List, [], ◌∷◌, take, fold, ℤ, pos, ◌+ℤ◌, ◌-ℤ◌, Some, None, Option, if◌then◌else◌, ◌≡◌}
+use Rattle.std.specs.Prelude.{ℕ, zero, suc, ◌+◌, ◌-◌, ◌*◌, ◌^◌, Bool, ◌&&◌, List, [], ◌∷◌, fold, ℤ, pos, ◌+ℤ◌, ◌-ℤ◌, Some, None, Option, if◌then◌else◌, ◌≡◌}
 use Rattle.std.specs.Int.{int_max, int_min}
 use Rattle.std.specs.List.{filter}
 use Rattle.clearing.specs.declared.dockets.PricedPackage.{PricedPackage}

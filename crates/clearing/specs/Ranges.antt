@@ -1,6 +1,6 @@
 -- Ranges of what a docket holds, which its arithmetic rests on.
 use Rattle.std.specs.List.{list_all}
-use Rattle.std.specs.Prelude.{Bool, true, ◌&&◌, List, [], ◌∷◌, ℤ, ◌==◌, int_le, nat_le, ℕ, ◌*◌}
+use Rattle.std.specs.Prelude.{Bool, ◌&&◌, List, ℤ, ◌==◌, int_le, nat_le, ℕ, ◌*◌}
 use Rattle.offers.specs.Fields.{within}
 use Rattle.offers.specs.Layouts.{Layout, fault_of}
 use Rattle.offers.specs.Tables.{package_layout, band_layout, PACKAGES, BANDS}

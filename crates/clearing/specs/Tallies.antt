@@ -1,7 +1,7 @@
 -- What the taken packages come to, set out as the code holds it.
 use Rattle.clearing.specs.Ranges.{at_most, MOST_SUPPLY}
-use Rattle.std.specs.List.{list_all, range_with_len}
-use Rattle.std.specs.Prelude.{◌≡◌, ℕ, zero, suc, ◌+◌, true, List, [], ◌∷◌, pos, ◌+ℤ◌, ◌≤ℤ◌, nat_le, slice_set, map, neg_ℤ, ◌-◌, ◌*◌}
+use Rattle.std.specs.List.{range_with_len}
+use Rattle.std.specs.Prelude.{◌≡◌, ℕ, ◌+◌, true, List, [], ◌∷◌, pos, ◌+ℤ◌, ◌≤ℤ◌, slice_set, map, neg_ℤ, ◌-◌, ◌*◌}
 use Rattle.clearing.specs.declared.dockets.PricedPackage.{PricedPackage}
 use Rattle.clearing.specs.declared.tallies.Tally.{Tally}
 use Rattle.clearing.specs.Choices.{supply, dated, nameplates, exports, cost, has_number}

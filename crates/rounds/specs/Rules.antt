@@ -1,8 +1,7 @@
 -- What one of two rules means.
 use Rattle.std.specs.Prelude.{ℕ}
-use Rattle.offers.specs.declared.records.Package.{Package}
-use Rattle.pricing.specs.Prices.{Bounded, Meaning}
-use Rattle.bounds.specs.Blocks.{Answers, SoundRule}
+use Rattle.pricing.specs.Prices.{Meaning}
+use Rattle.bounds.specs.Blocks.{Answers}
 use Rattle.rounds.specs.declared.rules.OneOf.{OneOf}
 use Rattle.rounds.specs.declared.rules.OneOf.TheVariants.{First, Second}
 

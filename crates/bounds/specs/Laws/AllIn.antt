@@ -1,24 +1,15 @@
 -- Why the all-in rule is sound: a choice of a block earns no more than its last with filled sales, and costs no less than is counted.
-use Rattle.std.specs.Prelude.{◌≡◌, ℕ, ◌*◌, ◌≤◌, true, ◌&&◌, List, ℤ, ◌≤ℤ◌, Some, None, Option, ◌==◌, cond, zero, suc, ◌+◌, ◌-◌, ◌/◌, ◌%◌, ◌^◌, ◌<◌, Bool, false, [], ◌∷◌, take, pos, ◌+ℤ◌, refl}
-use Rattle.std.proofs.Common.{le_trans, mul-le-mul_left, arith, sym, ap, ap₂, ◌∙◌}
-use Rattle.std.proofs.ByRecursion.{All-weaker}
+use Rattle.std.specs.Prelude.{◌≡◌, ℕ, ◌*◌, true, List, ℤ, ◌≤ℤ◌, ◌==◌, cond, zero, suc, ◌+◌, ◌-◌, ◌/◌, ◌%◌, ◌^◌, ◌<◌, Bool, false, [], ◌∷◌, take, pos, ◌+ℤ◌, refl}
+use Rattle.std.proofs.Common.{le_trans, arith, sym, ap, ap₂, ◌∙◌}
 use Rattle.std.proofs.lemmas.Int.{ints, clamps}
-use Rattle.std.proofs.lemmas.Bool.{and_from, both_ways, cond_both}
 use Rattle.clearing.specs.declared.dockets.PricedPackage.{PricedPackage}
-use Rattle.clearing.specs.Choices.{taken, supplied, supply, dated, cost}
-use Rattle.clearing.specs.Judging.{pairs_kept, exclusions_kept, zones_kept, dates_kept}
-use Rattle.clearing.specs.Lawful.{View, sold, percentage, Lawful, surplus, filled_sales}
-use Rattle.clearing.specs.Ranges.{package_fits}
-use Rattle.clearing.proofs.Filling.{ranges_of, market-most, best-filled, parts_of_one}
-use Rattle.clearing.proofs.Incomes.{income-few}
-use Rattle.clearing.proofs.Judged.{pairs_tell, exclusions_tell, zones_tell, dates_tell}
+use Rattle.clearing.specs.Choices.{taken, cost}
+use Rattle.clearing.specs.Lawful.{View}
+use Rattle.clearing.proofs.Filling.{best-filled, parts_of_one}
 use Rattle.clearing.specs.Ranged.{Ranged}
-use Rattle.clearing.proofs.RowRules.{all_both}
-use Rattle.clearing.proofs.Takings.{taken-fits, taken-few}
-use Rattle.clearing.proofs.Tallying.{cost_between}
-use Rattle.bounds.specs.Blocks.{Span, InDocket, InBlock, Claims, last_of, fixed, possible, free_ones}
-use Rattle.bounds.specs.Rules.{ceiling, always, all_in, limits_kept, shares_kept, smaller, below_zero}
-use Rattle.bounds.specs.Laws.Parts.{Part, first_part, last_part, lowest, fixed_digits, first_is, free_digits, choice_is}
+use Rattle.bounds.specs.Blocks.{Span, InDocket, InBlock, Claims, last_of, fixed, free_ones}
+use Rattle.bounds.specs.Rules.{all_in, below_zero}
+use Rattle.bounds.specs.Laws.Parts.{last_part, lowest, fixed_digits, first_is, free_digits, choice_is}
 use Rattle.std.proofs.Math.Nat.{pow-succ'}
 use Rattle.std.specs.Int.{int_min}
 

@@ -1,15 +1,13 @@
 -- Why a rule that a name picks is sound: each of them is.
-use Rattle.std.specs.Prelude.{List, [], ◌∷◌, map}
 use Rattle.clearing.proofs.ClosedRanges.{ranged-closing}
 use Rattle.bounds.specs.declared.names.Named.{Named}
 use Rattle.bounds.specs.declared.names.Named.TheVariants.{Ceiling, AllIn, OneByOne, Limits, Shares, Tangent}
-use Rattle.bounds.specs.Blocks.{Answers, SoundRule}
-use Rattle.bounds.specs.Rules.{joined, chained, named}
+use Rattle.bounds.specs.Blocks.{SoundRule}
+use Rattle.bounds.specs.Rules.{named}
 use Rattle.bounds.specs.Laws.Ceiling.{always-sound}
 use Rattle.bounds.specs.Laws.AllIn.{all_in-sound}
 use Rattle.bounds.specs.Laws.Limits.{limits-sound}
 use Rattle.bounds.specs.Laws.Shares.{shares-sound}
-use Rattle.bounds.specs.Laws.Joined.{smaller-sound}
 use Rattle.bounds.specs.Laws.OneByOne.{one_by_one-sound}
 use Rattle.bounds.specs.Laws.Tangent.{tangent-sound}
 

@@ -1,5 +1,4 @@
 -- Why one of two rules keeps its law: each of the two does.
-use Rattle.std.specs.Prelude.{ℕ}
 use Rattle.offers.specs.declared.records.Package.{Package}
 use Rattle.pricing.specs.Prices.{Bounded, Meaning}
 use Rattle.bounds.specs.Blocks.{Answers, SoundRule}
