@@ -1,12 +1,12 @@
 //! The multipliers of a block: what a unit of each market is taken to be worth, found by halving between what the bands pay when all is
 //! supplied and when only the fixed packages are.
-ghost use Rattle.std.specs.Prelude.{◌≡◌, ◌+◌, ◌-◌, ◌/◌, ◌≤◌, true, false, nat_lt, pos, ◌≤ℤ◌, slice_index, slice_index_or, if◌then◌else◌, neg_ℤ};
+ghost use Rattle.std.specs.Prelude.{◌≡◌, ◌+◌, ◌-◌, ◌/◌, ◌≤◌, true, pos, ◌≤ℤ◌, slice_index, if◌then◌else◌, neg_ℤ};
 ghost use Rattle.offers.specs.Tables.{package_layout};
 ghost use Rattle.clearing.specs.Choices.{taken, supplied, supply};
 ghost use Rattle.clearing.specs.Ranged.{Ranged};
 ghost use Rattle.clearing.specs.Ranges.{fits, package_fits, at_most, MOST_SUPPLY};
 ghost use Rattle.clearing.specs.Tallies.{row, plus};
-ghost use Rattle.bounds.specs.Multipliers.{value_at, gain, gainful, asked_above, either, over_asked, price_at, unit_worth, middle, narrowed_in, widest_in, multipliers_in, fixed_supply};
+ghost use Rattle.bounds.specs.Multipliers.{value_at, gain, gainful, asked_above, either, over_asked, price_at, middle, narrowed_in, widest_in, multipliers_in, fixed_supply};
 
 use crate::blocks::Block;
 use clearing::{CERTIFICATES, Docket, ENERGY, PricedPackage, supply_of};

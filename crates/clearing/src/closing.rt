@@ -2,7 +2,7 @@
 ghost use Rattle.offers.specs.Registers.{IsLedger};
 ghost use Rattle.offers.specs.Tables.{PACKAGES, BANDS, package_layout, band_layout};
 ghost use Rattle.std.specs.List.{list_all};
-ghost use Rattle.std.specs.Prelude.{◌≡◌, ℕ, ◌+◌, ◌-◌, ◌≤◌, true, ◌&&◌, ◌||◌, map, pos, IfOk, IfErr, Ok, Err, MatchResult, ◌==◌, nat_lt, slice_index_or, ◌<◌, length};
+ghost use Rattle.std.specs.Prelude.{◌≡◌, ◌+◌, ◌≤◌, true, IfOk, IfErr, ◌<◌, length};
 ghost use Rattle.offers.specs.Refusals.{Carries};
 ghost use Rattle.clearing.specs.Bands.{ahead_of, ahead_by};
 ghost use Rattle.clearing.specs.Closing.{PricesOpen, packages_at, no_price, open_from, open_records, open_bands};

@@ -1,10 +1,10 @@
 //! Whether a choice keeps the rules.
-ghost use Rattle.std.specs.Prelude.{◌≡◌, ℕ, ◌-◌, ◌*◌, ◌≤◌, true, List, if◌then◌else◌, nat_eq, nat_le, slice_index, IsTrue, ◌↔◌};
+ghost use Rattle.std.specs.Prelude.{◌≡◌, ℕ, ◌-◌, ◌*◌, ◌≤◌, true, List, nat_le, slice_index, IsTrue, ◌↔◌};
 ghost use Rattle.offers.specs.Tables.{limit_layout};
 ghost use Rattle.clearing.specs.Filling.{BestFilled};
 ghost use Rattle.clearing.specs.Judging.{dates_stand, worth_of};
 ghost use Rattle.clearing.specs.Kept.{PairsKept, ExclusionsKept, ZonesKept, DatesKept, zone_load};
-ghost use Rattle.clearing.specs.Lawful.{Lawful, Worth, filled_sales, percentage};
+ghost use Rattle.clearing.specs.Lawful.{Lawful, Worth, percentage};
 ghost use Rattle.clearing.specs.Tallies.{row};
 ghost use Rattle.clearing.specs.Ranges.{fits, at_most, MOST_SUPPLY, MOST_ASKED};
 

@@ -1,8 +1,8 @@
 //! Words as numbers: decimal digits, and the bytes that a number has to fit.
-ghost use Rattle.std.specs.Prelude.{◌≡◌, ◌+◌, ◌-◌, ◌*◌, true, Ok, ◌^◌, nat_lt, if◌then◌else◌, Some, None};
+ghost use Rattle.std.specs.Prelude.{◌≡◌, true};
 ghost use Rattle.std.specs.Char.{is_ascii_digit};
 ghost use Rattle.std.specs.List.{list_all};
-ghost use Rattle.journals.specs.Numbers.{digit_more, number_in, value_on, sized, signed_in};
+ghost use Rattle.journals.specs.Numbers.{digit_more, number_in, sized, signed_in};
 
 use crate::wrongs::Wrong;
 

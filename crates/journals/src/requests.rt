@@ -1,7 +1,7 @@
 //! The requests that lines ask for.
 ghost use Rattle.std.specs.Prelude.{◌≡◌, IfOk, map};
 ghost use Rattle.rounds.specs.Requests.{call_of};
-ghost use Rattle.journals.specs.Calls.{meaning_of, call_said, shown_of, fullest};
+ghost use Rattle.journals.specs.Calls.{meaning_of, call_said, shown_of};
 ghost use Rattle.journals.specs.Lines.{said};
 ghost use Rattle.journals.specs.Stacks.{plain_stack};
 

@@ -1,5 +1,5 @@
 //! The words of a line, read from the left.
-ghost use Rattle.std.specs.Prelude.{◌≡◌, ◌∷◌, [], not};
+ghost use Rattle.std.specs.Prelude.{◌≡◌, not};
 ghost use Rattle.journals.specs.Readers.{unread, NextWord, Gives, word_at, number_at, optional_at, signed_at, end_at};
 ghost use Rattle.std.specs.List.{position};
 ghost use Rattle.journals.specs.Words.{words_in, is_blank};

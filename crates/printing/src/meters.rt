@@ -1,5 +1,5 @@
 //! How far a search or a run of calls is, said on standard error.
-ghost use Rattle.std.specs.Prelude.{◌≡◌, ◌+◌, ◌<◌, if◌then◌else◌, ◌==◌, IsTrue, ◌↔◌};
+ghost use Rattle.std.specs.Prelude.{◌≡◌, ◌+◌, ◌<◌, if◌then◌else◌, IsTrue, ◌↔◌};
 
 use rounds::{Progress, Watch};
 use std::io::Eprint;

@@ -1,5 +1,5 @@
 //! The report of an award, and what is printed of it or of a refused sheet.
-ghost use Rattle.std.specs.Prelude.{◌≡◌, ◌∷◌, length, map, IfOk, Some};
+ghost use Rattle.std.specs.Prelude.{◌≡◌, map, IfOk, Some};
 ghost use Rattle.clearing.specs.Choices.{taken};
 ghost use Rattle.rounds.specs.Views.{of_awarded};
 ghost use Rattle.reports.specs.Reports.{ReportsIn, sold_line};

@@ -25,7 +25,7 @@ pub struct AwardedRound {
 }
 
 impl AwardedRound {
-    ghost use Rattle.rounds.specs.Model.{ReadAward, Reopen, WriteSheet, Awarded, Reopened, Written, step};
+    ghost use Rattle.rounds.specs.Model.{ReadAward, Reopen, WriteSheet, Awarded, Reopened, Written};
     ghost use Rattle.rounds.specs.Views.{of_open, of_awarded, gave, docket_in, Serves};
 
     /// The award, with what each band is sold, by offer number, in the row's first 64 places; a longer row keeps its rest, and a

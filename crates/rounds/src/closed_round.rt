@@ -27,7 +27,7 @@ pub enum Searched {
 }
 
 impl ClosedRound {
-    ghost use Rattle.rounds.specs.Model.{Search, Reopen, WriteSheet, Reopened, Written, step};
+    ghost use Rattle.rounds.specs.Model.{Search, Reopen, WriteSheet, Reopened, Written};
     ghost use Rattle.rounds.specs.Views.{of_open, of_closed, gave, gave_search, Serves, Falls};
 
     /// Makes so many steps, or fewer if the search finishes, and answers choices settled and the leader's surplus in pesos. Refused with

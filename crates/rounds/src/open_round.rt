@@ -20,7 +20,7 @@ pub struct OpenRound {
 
 impl OpenRound {
     ghost use Rattle.std.specs.Prelude.{IfOk};
-    ghost use Rattle.rounds.specs.Model.{File, Withdraw, CatchUp, Close, WriteSheet, Done, Written, step, open_and_vacant};
+    ghost use Rattle.rounds.specs.Model.{File, Withdraw, CatchUp, Close, WriteSheet, Done, Written, open_and_vacant};
     ghost use Rattle.rounds.specs.Views.{of_open, gave, gave_closing, Serves};
 
     /// A round begins open and vacant.

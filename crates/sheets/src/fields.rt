@@ -1,5 +1,5 @@
 //! One field of a sheet: its header taken off, its content taken into the entries of its kind.
-ghost use Rattle.std.specs.Prelude.{◌≡◌, length, Ok, Err, IfErr};
+ghost use Rattle.std.specs.Prelude.{◌≡◌, length, IfErr};
 ghost use Rattle.offers.specs.Layouts.{fault_of};
 ghost use Rattle.offers.specs.Marks.{decoded};
 ghost use Rattle.offers.specs.Memory.{layout_of};

@@ -1,6 +1,6 @@
 //! A line, read from its text.
 ghost use Rattle.std.specs.Option.{option_map};
-ghost use Rattle.journals.specs.Lines.{said, said_at, said_by, said_in};
+ghost use Rattle.journals.specs.Lines.{said, said_at, said_in};
 ghost use Rattle.journals.specs.Readers.{unread, Reads};
 
 use crate::bytes::bytes;
