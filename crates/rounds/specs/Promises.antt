@@ -49,7 +49,7 @@ withdraws n (WriteSheet buffer) = false
 abbrev pub withdrawn : ℕ → List Call → Bool
 withdrawn n calls = some_accepted (withdraws n) open_and_vacant calls
 
--- a call closes the round
+-- the call is a closing
 abbrev pub closes : Call → Bool
 closes (File n offer) = false
 closes (Withdraw k n) = false
@@ -60,7 +60,7 @@ closes Reopen = false
 closes (ReadAward lent) = false
 closes (WriteSheet buffer) = false
 
--- a call reopens it
+-- the call is a reopening
 abbrev pub reopens : Call → Bool
 reopens (File n offer) = false
 reopens (Withdraw k n) = false

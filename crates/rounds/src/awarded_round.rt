@@ -49,7 +49,8 @@ impl AwardedRound {
         &self.docket
     }
 
-    /// Writes the sheet of the offers into the buffer's first bytes, and gives its length. Refused with code 11 where the buffer is shorter.
+    /// Writes the sheet of the offers into the buffer's first bytes, and gives its length. Refused with code 11 where the
+    /// buffer is shorter than the sheet.
     pub fn write_sheet(&self, buffer: &mut [u8]) -> Result<usize, Refusal>
         ensures { Serves (of_awarded self.now) (WriteSheet buffer.old) (gave (of_awarded self.now) (Written result buffer.new)) }
     {

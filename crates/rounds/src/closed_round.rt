@@ -70,7 +70,8 @@ impl ClosedRound {
         (next, Ok(found))
     }
 
-    /// Writes the sheet of the offers into the buffer's first bytes, and gives its length. Refused with code 11 where the buffer is shorter.
+    /// Writes the sheet of the offers into the buffer's first bytes, and gives its length. Refused with code 11 where the
+    /// buffer is shorter than the sheet.
     pub fn write_sheet(&self, buffer: &mut [u8]) -> Result<usize, Refusal>
         ensures { Serves (of_closed self.now) (WriteSheet buffer.old) (gave (of_closed self.now) (Written result buffer.new)) }
     {

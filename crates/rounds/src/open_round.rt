@@ -55,7 +55,8 @@ impl OpenRound {
         catch_up(&mut self.offers, sheet)
     }
 
-    /// Writes the sheet of the offers into the buffer's first bytes, and gives its length. Refused with code 11 where the buffer is shorter.
+    /// Writes the sheet of the offers into the buffer's first bytes, and gives its length. Refused with code 11 where the
+    /// buffer is shorter than the sheet.
     pub fn write_sheet(&self, buffer: &mut [u8]) -> Result<usize, Refusal>
         ensures { Serves (of_open self.now) (WriteSheet buffer.old) (gave (of_open self.now) (Written result buffer.new)) }
     {

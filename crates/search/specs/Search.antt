@@ -17,7 +17,7 @@ pub record Standing : Type 0 where
   pub leader : ℕ
   pub surplus : ℤ
 
--- a number that falls with each step: more choices are settled, which are fewer than 2 ^ 41, or the next block is half as long, which
+-- a number that falls with each step: more choices are settled, which are at most 2 ^ 41, or the next block is half as long, which
 -- has fewer than 64 free digits
 abbrev pub work_left : Standing → ℕ
 work_left at = (2 ^ 41 - at.settled) * 64 + at.free
