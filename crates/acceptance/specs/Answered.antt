@@ -4,11 +4,13 @@ use Rattle.offers.specs.declared.records.Band.{Band}
 use Rattle.offers.specs.declared.records.Package.{Package}
 use Rattle.offers.specs.declared.registers.Entry.{Entry}
 use Rattle.offers.specs.declared.registers.Entry.TheVariants.{Vacant}
+use Rattle.offers.specs.Tables.{BUYERS}
+use Rattle.fees.specs.declared.rates.FeeRates.{FeeRates}
 use Rattle.pricing.specs.Prices.{filed_price}
 use Rattle.clearing.specs.Choices.{taken}
 use Rattle.clearing.specs.Lawful.{Best}
 use Rattle.bounds.specs.Rules.{limits_and_all_in}
-use Rattle.rounds.specs.Model.{Call, Close, Search, ReadAward, Answer, Done, Found, Awarded, State, IsOpen, IsClosed, IsAwarded, PlainRound, plain_round, after, answers}
+use Rattle.rounds.specs.Model.{Call, Close, Search, ReadAward, ReadFees, Answer, Done, Found, Awarded, State, IsOpen, IsClosed, IsAwarded, PlainRound, plain_round, step, after, answers}
 
 -- accepted, with nothing to tell
 abbrev pub done : Answer
@@ -91,6 +93,10 @@ pub record WorksOut (calls : List Call) (clearing : Clearing) : Type 0 where
   pub leader : leader_in (after (cleared calls)).state ≡ Some clearing.choice
   -- which takes these packages
   pub packages : taken_in (after (cleared calls)).state ≡ clearing.packages
+
+-- what the award of a round that begins with these calls and is then cleared charges, into a row of zeros
+abbrev pub charged_in : List Call → FeeRates → Answer
+charged_in calls rates = (step (after (cleared calls)) (ReadFees rates (replicate BUYERS 0))).answer
 
 -- It comes to that, and no lawful choice is better.
 pub record Clears (calls : List Call) (clearing : Clearing) : Type 0 where

@@ -38,9 +38,9 @@ dated_before p = record p { date = 1 }
 abbrev pub in_dollars : Package → Package
 in_dollars p = record p { dollar = 1 }
 
--- a bid in this market, for this quantity at this price
+-- a bid of buyer 1 in this market, for this quantity at this price
 abbrev pub band : ℕ → ℕ → ℕ → Band
-band market quantity price = record { market = market; quantity = quantity; price = price }
+band market quantity price = record { market = market; quantity = quantity; price = price; buyer = 1 }
 
 -- packages filed under this number, the next one and so on
 abbrev pub file_packages : ℕ → List Package → List Call
@@ -112,7 +112,7 @@ third_before = with_six_bands (first ∷ second ∷ dated_before third ∷ fourt
 abbrev pub ten_for : ℕ → Package
 ten_for price = plain_package 0 10 0 price
 
--- The 86 bytes of a sheet: a package of 10 MWh for 20 pesos, another for this price, and a band for 10 MWh at 5 pesos.
+-- The 87 bytes of a sheet: a package of 10 MWh for 20 pesos, another for this price, and a band for 10 MWh at 5 pesos.
 abbrev pub sheet_with_second_for : ℕ → List ℕ
 sheet_with_second_for price =
     0x01 ∷ 0x00 ∷ 0x21 ∷ 0x01 ∷ 0x01
@@ -121,7 +121,7 @@ sheet_with_second_for price =
     ∷ 0x01 ∷ 0x00 ∷ 0x21 ∷ 0x02 ∷ 0x01
     ∷ 0x00 ∷ 0x00 ∷ 0x00 ∷ 0x00 ∷ 0x00 ∷ 0x00 ∷ 0x00 ∷ 0x0A ∷ 0x00 ∷ 0x00 ∷ 0x00 ∷ 0x00 ∷ 0x00 ∷ 0x00 ∷ 0x00 ∷ 0x00
     ∷ 0x00 ∷ 0x00 ∷ 0x00 ∷ 0x00 ∷ 0x00 ∷ 0x00 ∷ 0x00 ∷ price ∷ 0x01 ∷ 0x01 ∷ 0x01 ∷ 0x01 ∷ 0x00 ∷ 0x00 ∷ 0x00
-    ∷ 0x02 ∷ 0x00 ∷ 0x0B ∷ 0x01 ∷ 0x01 ∷ 0x04 ∷ 0x00 ∷ 0x00 ∷ 0x00 ∷ 0x0A ∷ 0x00 ∷ 0x00 ∷ 0x00 ∷ 0x05
+    ∷ 0x02 ∷ 0x00 ∷ 0x0C ∷ 0x01 ∷ 0x01 ∷ 0x04 ∷ 0x00 ∷ 0x00 ∷ 0x00 ∷ 0x0A ∷ 0x00 ∷ 0x00 ∷ 0x00 ∷ 0x05 ∷ 0x01
     ∷ []
 
 -- that of the two-package round

@@ -9,8 +9,8 @@ use Rattle.pricing.specs.declared.rules.Fault.{Fault}
 use Rattle.pricing.specs.Prices.{filed_price, stack_price}
 use Rattle.bounds.specs.Blocks.{Answers}
 use Rattle.bounds.specs.Rules.{always, all_in}
-use Rattle.rounds.specs.Model.{Call, File, Withdraw, CatchUp, Close, Search, ReadAward, Done, Found, Awarded, NotTaken, answers}
-use Rattle.acceptance.specs.Answered.{done, empty_row, row_of, open_with, Leaves, Clears}
+use Rattle.rounds.specs.Model.{Call, File, Withdraw, CatchUp, Close, Search, ReadAward, Done, Found, Awarded, Charged, NotTaken, answers}
+use Rattle.acceptance.specs.Answered.{done, empty_row, row_of, open_with, charged_in, Leaves, Clears}
 use Rattle.acceptance.specs.WorkedOffers.{band, file_pair, file_exclusion, file_limit, in_dollars, four_filed, four_unqualified, first_qualified, third_before, ten_for, sheet_with_second_for, two_packages_sheet}
 
 -- the two-package round from its sheet, searched under a rule for so many steps, and its award read
@@ -40,7 +40,7 @@ abbrev pub withdrawn_then : List ℕ → List Call
 withdrawn_then sheet = File 2 (offer.Package (ten_for 20)) ∷ Withdraw kind.Package 2 ∷ CatchUp sheet ∷ []
 
 -- What each worked round comes to. Rounds 3 to 9 are the four-package round with a difference.
-pub record TwelveRounds : Type 0 where
+pub record WorkedRounds : Type 0 where
   -- round 1, two packages: the second alone is worth as much as the first, and comes later
   pub two_packages : Clears (CatchUp two_packages_sheet ∷ []) (record {
     choices = 4;
@@ -140,3 +140,6 @@ pub record TwelveRounds : Type 0 where
   pub another_price_clashes : Leaves (withdrawn_then (sheet_with_second_for 21))
       (done ∷ done ∷ Done (Err (record { code = Clash; tag = 1; number = 2; field = 0; byte = 36; depth = 0 })) ∷ [])
       (open_with (Vacant ∷ Withdrawn (ten_for 20) ∷ replicate 38 Vacant) (replicate 64 Vacant))
+  -- round 13, the fees of the four-package round, whose bands are all of buyer 1: its value is 348,500,000 pesos
+  pub one_buyer : charged_in four_filed (record { first = 100; second = 50; third = 10 })
+      ≡ Charged (Ok 75350000) (75350000 ∷ replicate 15 0)

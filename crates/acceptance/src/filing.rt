@@ -109,6 +109,7 @@ fn field_outside(rt: HostRuntime) -> Result<(), Fail> {
         market: 4,
         quantity: 0,
         price: 5,
+        buyer: 1,
     };
     assert_eq!(rt;
         offers.file(64, Offer::Band(band)),

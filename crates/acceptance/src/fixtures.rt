@@ -1,5 +1,6 @@
 //! What tests are written with: the offers of the worked rounds, requests to a round, and what they are answered.
 use bounds::{AllIn, BoundingRule, Joined, Limits};
+use fees::FeeRates;
 use offers::{Band, Exclusion, Limit, Offer, Offers, Package, Pair, Refusal};
 use pricing::{Currency, Filed, Place, PriceRule, Rates, ZoneNumbers};
 use reports::Report;
@@ -44,11 +45,17 @@ pub fn unqualified(package: Package) -> Package {
     }
 }
 
+/// A band of buyer 1.
 pub fn band(market: u8, quantity: u32, price: u32) -> Offer {
+    band_of(1, market, quantity, price)
+}
+
+pub fn band_of(buyer: u8, market: u8, quantity: u32, price: u32) -> Offer {
     Offer::Band(Band {
         market,
         quantity,
         price,
+        buyer,
     })
 }
 
@@ -88,12 +95,12 @@ pub fn six_bands() -> [Offer; 6] {
 }
 
 /// The sheet of the two-package round.
-pub const TWO_PACKAGES: &[u8; 86] =
+pub const TWO_PACKAGES: &[u8; 87] =
     b"\x01\x00\x21\x01\x01\x00\x00\x00\x00\x00\x00\x00\x0a\x00\x00\x00\x00\x00\x00\x00\x00\
     \x00\x00\x00\x00\x00\x00\x00\x14\x01\x01\x01\x01\x00\x00\x00\
     \x01\x00\x21\x02\x01\x00\x00\x00\x00\x00\x00\x00\x0a\x00\x00\x00\x00\x00\x00\x00\x00\
     \x00\x00\x00\x00\x00\x00\x00\x14\x01\x01\x01\x01\x00\x00\x00\
-    \x02\x00\x0b\x01\x01\x04\x00\x00\x00\x0a\x00\x00\x00\x05";
+    \x02\x00\x0c\x01\x01\x04\x00\x00\x00\x0a\x00\x00\x00\x05\x01";
 
 /// Currency on place on filed, with one number for price zone 1 and 0 for the others.
 pub fn stack(
@@ -117,6 +124,13 @@ pub type UsualRequest = Request<Filed, Joined<Limits, AllIn>>;
 
 pub const LIMITS_AND_ALL_IN: Joined<Limits, AllIn> = Joined(Limits, AllIn);
 
+/// The rates at which most fees are asked for.
+pub const FEE_RATES: FeeRates = FeeRates {
+    first: 100,
+    second: 50,
+    third: 10,
+};
+
 /// Files packages, bands and other offers, each from number 1 on.
 pub fn filing<P: Drop, B: Drop>(
     heap: Global,
@@ -134,7 +148,7 @@ pub fn filing<P: Drop, B: Drop>(
     Ok(requests)
 }
 
-/// A row for an award, of so many places that each hold a 7.
+/// A row to lend, of so many places that each hold a 7.
 pub fn row(heap: Global, places: usize) -> Result<Vec<u64>, AllocError> {
     Ok(vec![in heap; 7u64; places]?)
 }
@@ -148,6 +162,8 @@ pub enum Told {
     Reopened,
     /// the choice, and its surplus
     Awarded(u64, i64),
+    /// the fees of all buyers together
+    Charged(u64),
     /// the sheet's length
     Written(usize),
     Refused(Refusal),
@@ -161,10 +177,12 @@ impl Told {
             Reply::Found(Ok((settled, surplus))) => Told::Found(*settled, *surplus),
             Reply::Reopened => Told::Reopened,
             Reply::Awarded(Ok(award), _) => Told::Awarded(award.choice, award.surplus),
+            Reply::Charged(Ok(total), _) => Told::Charged(*total),
             Reply::Written(Ok(length), _) => Told::Written(*length),
             Reply::Done(Err(refusal))
             | Reply::Found(Err(refusal))
             | Reply::Awarded(Err(refusal), _)
+            | Reply::Charged(Err(refusal), _)
             | Reply::Written(Err(refusal), _) => Told::Refused(*refusal),
             Reply::NotTaken => Told::NotTaken,
         }
@@ -209,23 +227,24 @@ pub fn check_sold<R: Abort + AllocGlobal, P: PriceRule + Drop, B: BoundingRule +
     sales: &[u64],
 ) -> Result<(), Fail> {
     let run = check_run(rt, requests, last)?;
-    check_row(rt, &run, sales)
+    check_row(rt, &run, 64, sales)
 }
 
-fn check_row(rt: &impl Abort, run: &Run, sales: &[u64]) -> Result<(), Fail> {
+// The row that the last request lent, 7 in each place, has these numbers, then 0 up to so many places, and then is as it was.
+fn check_row(rt: &impl Abort, run: &Run, places: usize, numbers: &[u64]) -> Result<(), Fail> {
     let Some(
         Moment {
-            reply: Reply::Awarded(_, row),
+            reply: Reply::Awarded(_, row) | Reply::Charged(_, row),
             ..
         },
     ) = run.moments.last()
     else {
-        return Err(Fail::new("no award was read"));
+        return Err(Fail::new("no row was lent"));
     };
-    for (place, sold) in row.iter().enumerate() {
-        let rest = if place < 64 { 0 } else { 7 };
-        let expected = sales.get(place).copied().unwrap_or(rest);
-        assert_eq!(rt; *sold, expected, "place {place}");
+    for (place, number) in row.iter().enumerate() {
+        let rest = if place < places { 0 } else { 7 };
+        let expected = numbers.get(place).copied().unwrap_or(rest);
+        assert_eq!(rt; *number, expected, "place {place}");
     }
     Ok(())
 }
@@ -268,10 +287,26 @@ pub fn check_clearing<R: Abort + AllocGlobal>(
         Told::Awarded(expected.choice, expected.surplus),
     ];
     let run = check_run(rt, requests, &last)?;
-    check_row(rt, &run, expected.sales)?;
+    check_row(rt, &run, 64, expected.sales)?;
     let report = report_of(heap, &run.round)?;
     assert_eq!(rt; report.packages.as_slice(), expected.packages);
     Ok(())
+}
+
+/// A round that is asked this is closed as filed, searched to its end, and asked for its fees into a row of 20 places; it is answered so
+/// in the end, and its buyers pay this, from buyer 1 on.
+pub fn check_charged<R: Abort + AllocGlobal>(
+    rt: &R,
+    mut requests: Vec<UsualRequest>,
+    last: &[Told; 2],
+    fees: &[u64],
+) -> Result<(), Fail> {
+    let row = row(rt.alloc(), 20)?;
+    requests.push(Request::Close(Filed))?;
+    requests.push(Request::Search(LIMITS_AND_ALL_IN, 1_000_000))?;
+    requests.push(Request::ReadFees(FEE_RATES, row))?;
+    let run = check_run(rt, requests, last)?;
+    check_row(rt, &run, 16, fees)
 }
 
 /// The same entries stand under every number of every kind.

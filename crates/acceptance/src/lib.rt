@@ -3,7 +3,7 @@
 
 ghost use Rattle.std.specs.Prelude.{◌≡◌};
 ghost use Rattle.pricing.specs.Prices.{stack_price};
-ghost use Rattle.acceptance.specs.WorkedRounds.{TwelveRounds};
+ghost use Rattle.acceptance.specs.WorkedRounds.{WorkedRounds};
 
 #[cfg(test)]
 mod awards;
@@ -11,6 +11,8 @@ mod awards;
 mod failing;
 #[cfg(test)]
 mod failures;
+#[cfg(test)]
+mod fees_charged;
 #[cfg(test)]
 mod filing;
 #[cfg(test)]
@@ -36,8 +38,8 @@ use offers::Package;
 use pricing::{Currency, Filed, Place, PriceRule};
 
 /// The definitions come to what the worked rounds say. This is its proof.
-pub fn twelve_rounds()
-    ensures { TwelveRounds }
+pub fn all_rounds()
+    ensures { WorkedRounds }
 {}
 
 /// Currency on place on filed means the price of the round's own stack, by the numbers that its rules hold. So the tenth

@@ -58,12 +58,14 @@ fn fields_of_a_band(rt: HostRuntime) -> Result<(), Fail> {
         market: 1,
         quantity: 1,
         price: 0,
+        buyer: 1,
     };
     check_fields!(
         rt, Band, band,
         market: 0 => 2, 1 => 0, 5 => 0, 6 => 2;
         quantity: 0 => 3, 1 => 0, 100_000_000 => 0, 100_000_001 => 3;
         price: 0 => 0, 10_000_000 => 0, 10_000_001 => 4;
+        buyer: 0 => 5, 1 => 0, 16 => 0, 17 => 5;
     )
 }
 

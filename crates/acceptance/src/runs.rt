@@ -1,6 +1,6 @@
 //! Runs of calls: what each state takes, what a refused call leaves, and rounds that are closed more than once.
 use crate::fixtures::{
-    LIMITS_AND_ALL_IN, TWO_PACKAGES, Told, UsualRequest, band, check_answers, check_run,
+    FEE_RATES, LIMITS_AND_ALL_IN, TWO_PACKAGES, Told, UsualRequest, band, check_answers, check_run,
     check_sold, filing, four_packages, package, row, six_bands, stack,
 };
 use bounds::Ceiling;
@@ -24,13 +24,15 @@ fn ten_for_20() -> Offer {
 #[test]
 fn not_taken_while_open(rt: HostRuntime) -> Result<(), Fail> {
     let heap = rt.alloc();
+    let fees_row = row(heap, 16)?;
     let row = row(heap, 64)?;
     let requests: Vec<UsualRequest> = vec![in heap;
         Request::Search(LIMITS_AND_ALL_IN, 1),
         Request::Reopen,
         Request::ReadAward(row),
+        Request::ReadFees(FEE_RATES, fees_row),
     ]?;
-    check_answers(&rt, requests, &[Told::NotTaken; 3])
+    check_answers(&rt, requests, &[Told::NotTaken; 4])
 }
 
 // The search comes to what it would have come to without the calls that are not taken.
@@ -38,6 +40,7 @@ fn not_taken_while_open(rt: HostRuntime) -> Result<(), Fail> {
 fn not_taken_while_closed(rt: HostRuntime) -> Result<(), Fail> {
     let heap = rt.alloc();
     let catch_up = two_packages(heap)?;
+    let fees_row = row(heap, 16)?;
     let row = row(heap, 64)?;
     let requests = vec![in heap;
         catch_up,
@@ -47,9 +50,11 @@ fn not_taken_while_closed(rt: HostRuntime) -> Result<(), Fail> {
         Request::CatchUp(Vec::new(heap)),
         Request::Close(Filed),
         Request::ReadAward(row),
+        Request::ReadFees(FEE_RATES, fees_row),
         Request::Search(LIMITS_AND_ALL_IN, 100),
     ]?;
     let last = [
+        Told::NotTaken,
         Told::NotTaken,
         Told::NotTaken,
         Told::NotTaken,
@@ -186,13 +191,13 @@ fn sheet_in_each_state(rt: HostRuntime) -> Result<(), Fail> {
     ask_for_sheets(&mut requests, heap)?;
     let no_room = Told::Refused(Refusal::code_only(Code::NoRoom));
     let last = [
-        Told::Written(86),
+        Told::Written(87),
         no_room,
         Told::Done,
-        Told::Written(86),
+        Told::Written(87),
         no_room,
         Told::Found(4, 30),
-        Told::Written(86),
+        Told::Written(87),
         no_room,
     ];
     let run = check_run(&rt, requests, &last)?;

@@ -15,6 +15,7 @@ const BAND: Band = Band {
     market: 4,
     quantity: 10,
     price: 5,
+    buyer: 1,
 };
 
 const PAIR: Pair = Pair {
@@ -38,13 +39,13 @@ const SECOND: usize = 36;
 
 const THIRD: usize = 72;
 
-const FOURTH: usize = 86;
+const FOURTH: usize = 87;
 
-const FIFTH: usize = 93;
+const FIFTH: usize = 94;
 
-const SIXTH: usize = 100;
+const SIXTH: usize = 101;
 
-const END: usize = 111;
+const END: usize = 112;
 
 // Two packages and one offer of each other kind, all open.
 fn offered() -> Result<Offers, Refusal> {
@@ -117,6 +118,7 @@ fn strange_headers(rt: HostRuntime) -> Result<(), Fail> {
             (2, 32, headed(Code::Strange, 1, 0)),
             (THIRD, 255, headed(Code::Strange, 255, THIRD)),
             (THIRD + 2, 33, headed(Code::Strange, 2, THIRD)),
+            (THIRD + 2, 11, headed(Code::Strange, 2, THIRD)),
             (SIXTH + 2, 9, headed(Code::Strange, 5, SIXTH)),
         ],
     )
@@ -159,6 +161,8 @@ fn status_and_fields(rt: HostRuntime) -> Result<(), Fail> {
             (5, 1, field_outside(Kind::Package, 2, 0)),
             (35, 2, field_outside(Kind::Package, 13, 0)),
             (THIRD + 5, 6, field_outside(Kind::Band, 2, THIRD)),
+            (FOURTH - 1, 0, field_outside(Kind::Band, 5, THIRD)),
+            (FOURTH - 1, 17, field_outside(Kind::Band, 5, THIRD)),
             (FOURTH + 6, 1, field_outside(Kind::Pair, 3, FOURTH)),
             (FIFTH + 5, 17, field_outside(Kind::Exclusion, 2, FIFTH)),
             (SIXTH + 6, 5, field_outside(Kind::Limit, 3, SIXTH)),
@@ -254,7 +258,7 @@ fn buffers(rt: HostRuntime) -> Result<(), Fail> {
     Ok(())
 }
 
-// Every number of every kind, some withdrawn: 3,584 bytes that read back.
+// Every number of every kind, some withdrawn: 3,648 bytes that read back.
 #[test]
 fn fullest_sheet(rt: HostRuntime) -> Result<(), Fail> {
     let mut offers = Offers::vacant();
@@ -270,14 +274,14 @@ fn fullest_sheet(rt: HostRuntime) -> Result<(), Fail> {
         offers.file(number, Offer::Exclusion(EXCLUSION))?;
     }
     offers.withdraw(Kind::Package, 40)?;
-    let mut bytes = [0u8; 3584];
-    assert_eq!(rt; write_sheet(&offers, &mut bytes), Ok(3584));
+    let mut bytes = [0u8; 3648];
+    assert_eq!(rt; write_sheet(&offers, &mut bytes), Ok(3648));
     let mut other = Offers::vacant();
     catch_up(&mut other, &bytes)?;
     let entry = other.packages.entries[39];
     assert_eq!(rt; entry, Entry::Withdrawn(PACKAGE));
-    let mut again = [0u8; 3584];
-    assert_eq!(rt; write_sheet(&other, &mut again), Ok(3584));
+    let mut again = [0u8; 3648];
+    assert_eq!(rt; write_sheet(&other, &mut again), Ok(3648));
     assert!(rt; bytes == again);
     Ok(())
 }

@@ -9,7 +9,7 @@ use rounds::Request;
 use std::process::Abort;
 use std::test::*;
 
-// Round 8 with package 1 qualified: its nameplate does not count. Field `qualified_not_counted` of `TwelveRounds`.
+// Round 8 with package 1 qualified: its nameplate does not count. Field `qualified_not_counted` of `WorkedRounds`.
 #[test]
 fn round_8_with_package_1_qualified(rt: HostRuntime) -> Result<(), Fail> {
     let mut packages = four_packages().map(unqualified);

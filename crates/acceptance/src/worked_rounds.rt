@@ -1,7 +1,8 @@
-//! The twelve worked rounds of docs/RULES.md, a test each. Each names the fields of `TwelveRounds` that say the same, proved.
+//! The worked rounds of docs/RULES.md, a test each. Each names the fields of `WorkedRounds` that say the same, proved.
 use crate::fixtures::{
-    Clearing, LEAST, TWO_PACKAGES, Told, UsualRequest, check_clearing, check_run, check_same,
-    excluded, filing, four_packages, limit, needs, package, six_bands, stack, unqualified,
+    Clearing, LEAST, TWO_PACKAGES, Told, UsualRequest, check_charged, check_clearing, check_run,
+    check_same, excluded, filing, four_packages, limit, needs, package, six_bands, stack,
+    unqualified,
 };
 use bounds::{AllIn, Block, BoundingRule, CEILING, Ceiling};
 use clearing::{Docket, worth};
@@ -299,6 +300,7 @@ fn round_11_a_withdrawal_outlives_an_older_sheet(rt: HostRuntime) -> Result<(), 
         market: 4,
         quantity: 10,
         price: 5,
+        buyer: 1,
     });
     check_sheet(&rt, 20, Told::Done, &expected)
 }
@@ -316,4 +318,12 @@ fn round_12_a_clash(rt: HostRuntime) -> Result<(), Fail> {
     };
     assert_eq!(rt; clash.code.number(), 9);
     check_sheet(&rt, 21, Told::Refused(clash), &expected)
+}
+
+// All bands are of buyer 1, whose value is 348,500,000 pesos. Field `one_buyer`.
+#[test]
+fn round_13_fees(rt: HostRuntime) -> Result<(), Fail> {
+    let requests = filing(rt.alloc(), &four_packages(), &six_bands(), &[])?;
+    let last = [Told::Found(16, 123_500_000), Told::Charged(75_350_000)];
+    check_charged(&rt, requests, &last, &[75_350_000])
 }

@@ -71,6 +71,7 @@ mod tests {
             market,
             quantity,
             price,
+            buyer: 1,
         })
     }
 

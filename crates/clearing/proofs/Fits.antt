@@ -133,6 +133,8 @@ pub record BandRanges (b : Band) : Type 0 where
   pub market : b.market ≤ 5
   pub quantity : b.quantity ≤ 100000000
   pub price : b.price ≤ 10000000
+  pub buyer_least : 1 ≤ b.buyer
+  pub buyer : b.buyer ≤ 16
 
 -- so has a band
 pub band_ranges : (b : Band) → fits band_layout b ≡ true → BandRanges b
@@ -143,6 +145,8 @@ band_ranges b e =
       market = within-most 1 5 _ (ok 0);
       quantity = within-most 1 100000000 _ (ok 1);
       price = within-most 0 10000000 _ (ok 2);
+      buyer_least = within-least 1 16 _ (ok 3);
+      buyer = within-most 1 16 _ (ok 3);
     }
 
 -- The ranges of a pair's fields.

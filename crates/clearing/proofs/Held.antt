@@ -32,7 +32,7 @@ no_package = record {
 }
 
 abbrev pub no_band : OpenBand
-no_band = record { number = 0; ahead = 0; terms = record { market = 0; quantity = 0; price = 0 } }
+no_band = record { number = 0; ahead = 0; terms = record { market = 0; quantity = 0; price = 0; buyer = 0 } }
 
 abbrev pub no_exclusion : Exclusion
 no_exclusion = record { group = 0; member = 0 }

@@ -10,7 +10,7 @@ use Rattle.offers.specs.declared.kinds.Kind.TheVariants as kind
 use Rattle.journals.specs.declared.wrongs.Wrong.TheVariants.{UnknownKind}
 use Rattle.journals.specs.Journals.{journal_from}
 use Rattle.journals.specs.Laws.{LinesReadBack, JournalsReadBack}
-use Rattle.journals.specs.Lines.{Said, File, Withdraw, CatchUp, Close, Search, Reopen, Award, Sheet, said_at, said_by}
+use Rattle.journals.specs.Lines.{Said, File, Withdraw, CatchUp, Close, Search, Reopen, Award, Fees, Sheet, said_at, said_by}
 use Rattle.journals.specs.Names.{kinds}
 use Rattle.journals.specs.Readers.{name_at}
 use Rattle.journals.specs.Texts.{behind, spaced, kind_word, kind_of, words_of, line_text, journal_text, Fits}
@@ -41,6 +41,13 @@ said_by-words (Close plain_stack) fit = rw (stack_at-words plain_stack fit)
 said_by-words (Search rules steps) fit = rw (chain_at-rules rules, number_at-decimal 4 steps (omega arith) (omega arith))
 said_by-words Reopen fit = refl
 said_by-words (Award length) fit = rw (sized-decimal 4 length (omega arith) (omega arith))
+said_by-words (Fees rates length) fit =
+    rw (
+      number_at-decimal 4 rates.first (omega arith) fit.0.0,
+      number_at-decimal 4 rates.second (omega arith) fit.0.1,
+      number_at-decimal 4 rates.third (omega arith) fit.0.2,
+      sized-decimal 4 length (omega arith) fit.1,
+    )
 said_by-words (Sheet None) fit = refl
 said_by-words (Sheet (Some length)) fit = rw (sized-decimal 4 length (omega arith) (omega arith))
 
@@ -63,6 +70,11 @@ words-plain (Close plain_stack) fit = ((refl, refl), stack-words plain_stack fit
 words-plain (Search rules steps) fit = ((refl, refl), ((rules-words rules).0, (number-word steps (omega arith), tt)))
 words-plain Reopen fit = ((refl, refl), tt)
 words-plain (Award length) fit = ((refl, refl), (number-word length (omega arith), tt))
+words-plain (Fees rates length) fit =
+    let first = number-word rates.first (omega (arith, fit.0.0)) in
+    let second = number-word rates.second (omega (arith, fit.0.1)) in
+    let third = number-word rates.third (omega (arith, fit.0.2)) in
+    ((refl, refl), (first, (second, (third, (number-word length (omega (arith, fit.1)), tt)))))
 words-plain (Sheet None) fit = ((refl, refl), tt)
 words-plain (Sheet (Some length)) fit = ((refl, refl), (number-word length (omega arith), tt))
 
@@ -90,6 +102,7 @@ begins (Close plain_stack) = refl
 begins (Search rules steps) = refl
 begins Reopen = refl
 begins (Award length) = refl
+begins (Fees rates length) = refl
 begins (Sheet length) = refl
 
 pub lines_read_back : LinesReadBack

@@ -38,7 +38,7 @@ length_register k law n (e ∷ es) =
 sheet-length : (all : Entries) → Sound all → length (sheet_of all) ≤ fullest
 sheet-length all sound =
     let packages : length (kind_bytes all kind.Package) ≤ length all.packages * 36 = length_register package_layout package_laws 1 all.packages in
-    let bands : length (kind_bytes all kind.Band) ≤ length all.bands * 14 = length_register band_layout band_laws 1 all.bands in
+    let bands : length (kind_bytes all kind.Band) ≤ length all.bands * 15 = length_register band_layout band_laws 1 all.bands in
     let pairs : length (kind_bytes all kind.Pair) ≤ length all.pairs * 7 = length_register pair_layout pair_laws 1 all.pairs in
     let exclusions : length (kind_bytes all kind.Exclusion) ≤ length all.exclusions * 7 = length_register exclusion_layout exclusion_laws 1 all.exclusions in
     let limits : length (kind_bytes all kind.Limit) ≤ length all.limits * 11 = length_register limit_layout limit_laws 1 all.limits in

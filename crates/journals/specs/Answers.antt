@@ -6,7 +6,7 @@ use Rattle.hex.specs.Hex.{encode_lower}
 use Rattle.offers.specs.declared.refusals.Refusal.{Refusal}
 use Rattle.offers.specs.Refusals.{code_number}
 use Rattle.rounds.specs.declared.awarded_round.Award.{Award}
-use Rattle.rounds.specs.Model.{Answer, Done, Found, Reopened, Awarded, Written, NotTaken, PlainStage, AtOpen, AtClosed, AtAwarded}
+use Rattle.rounds.specs.Model.{Answer, Done, Found, Reopened, Awarded, Charged, Written, NotTaken, PlainStage, AtOpen, AtClosed, AtAwarded}
 use Rattle.journals.specs.declared.lines.Shown.{Shown}
 use Rattle.journals.specs.declared.lines.Shown.TheVariants.{Whole, Filled}
 
@@ -22,12 +22,16 @@ found_text settled surplus = codes "settled " ++ (decimal settled ++ (codes " su
 
 -- a number behind others
 abbrev pub place_text : ℕ → List ℕ
-place_text quantity = 32 ∷ decimal quantity
+place_text number = 32 ∷ decimal number
 
 -- the choice, its surplus in pesos, and every place of the row
 abbrev pub awarded_text : Award → List ℕ → List ℕ
 awarded_text award row =
     codes "choice " ++ (decimal award.choice ++ (codes " surplus " ++ (signed_decimal award.surplus ++ (codes " sold" ++ flat_map place_text row))))
+
+-- the total in centavos, and every place of the row
+abbrev pub charged_text : ℕ → List ℕ → List ℕ
+charged_text total row = codes "fees " ++ (decimal total ++ flat_map place_text row)
 
 -- bytes behind a number, two digits each; nothing where there are none
 abbrev pub bytes_text : List ℕ → List ℕ
@@ -57,6 +61,8 @@ answer_text shown stage (Found (Err refusal)) = refusal_text refusal
 answer_text shown stage Reopened = codes "done"
 answer_text shown stage (Awarded (Ok award) row) = awarded_text award row
 answer_text shown stage (Awarded (Err refusal) row) = refusal_text refusal
+answer_text shown stage (Charged (Ok total) row) = charged_text total row
+answer_text shown stage (Charged (Err refusal) row) = refusal_text refusal
 answer_text shown stage (Written (Ok length) buffer) = sheet_text length (shown_bytes shown length buffer)
 answer_text shown stage (Written (Err refusal) buffer) = refusal_text refusal
 answer_text shown stage NotTaken = codes "not taken while " ++ stage_word stage

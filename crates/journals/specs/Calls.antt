@@ -9,7 +9,7 @@ use Rattle.rounds.specs.Model.{Call}
 use Rattle.journals.specs.declared.lines.Shown.{Shown}
 use Rattle.journals.specs.declared.lines.Shown.TheVariants as shown
 use Rattle.journals.specs.Chains.{Rules}
-use Rattle.journals.specs.Lines.{Said, File, Withdraw, CatchUp, Close, Search, Reopen, Award, Sheet}
+use Rattle.journals.specs.Lines.{Said, File, Withdraw, CatchUp, Close, Search, Reopen, Award, Fees, Sheet}
 use Rattle.journals.specs.Stacks.{PlainStack, Filed, Place, Currency}
 
 -- what the rules of a stack mean; the filed rule stands at depth 1
@@ -25,7 +25,7 @@ answers_of rules = chained (named rules.first) (map named rules.others)
 
 -- the bytes of a sheet of a round that holds an offer under every number: for each kind so many fields of so many bytes
 abbrev pub fullest : ℕ
-fullest = PACKAGES * 36 + BANDS * 14 + PAIRS * 7 + EXCLUSIONS * 7 + LIMITS * 11
+fullest = PACKAGES * 36 + BANDS * 15 + PAIRS * 7 + EXCLUSIONS * 7 + LIMITS * 11
 
 -- the length of the buffer that is lent
 abbrev pub buffer_length : Option ℕ → ℕ
@@ -41,6 +41,7 @@ call_said (Close plain_stack) = model.Close (meaning_of plain_stack)
 call_said (Search rules steps) = model.Search (answers_of rules) steps
 call_said Reopen = model.Reopen
 call_said (Award length) = model.ReadAward (replicate length 0)
+call_said (Fees rates length) = model.ReadFees rates (replicate length 0)
 call_said (Sheet length) = model.WriteSheet (replicate (buffer_length length) 0)
 
 -- of a buffer whose length is not said only the sheet's own bytes are shown: a sheet fills the first bytes, so they are what a

@@ -2,6 +2,8 @@
 use Rattle.std.specs.Prelude.{ℕ, List, [], ◌∷◌, vec_items, slice_index, ◌==◌, unwrap_or, Some, None, Option, Ok, Result, if◌then◌else◌}
 use Rattle.offers.specs.declared.kinds.Kind.{Kind}
 use Rattle.offers.specs.declared.memory.Offer.{Offer}
+use Rattle.offers.specs.Tables.{BANDS, BUYERS}
+use Rattle.fees.specs.declared.rates.FeeRates.{FeeRates}
 use Rattle.journals.specs.declared.lines.Line.{Line}
 use Rattle.journals.specs.declared.lines.Line.TheVariants as line
 use Rattle.journals.specs.declared.names.Verb.{Verb}
@@ -30,6 +32,8 @@ pub data Said : Type 0 where
   Reopen : Said
   -- the length of the row that is lent
   Award : ℕ → Said
+  -- the rates, and the length of the row that is lent
+  Fees : FeeRates → ℕ → Said
   -- the length of the buffer that is lent; none for one as long as the sheet
   Sheet : Option ℕ → Said
 
@@ -41,6 +45,7 @@ said (line.Close stack) = Close (plain_stack stack)
 said (line.Search chain steps) = Search (joined_rules chain) steps
 said line.Reopen = Reopen
 said (line.Award length) = Award length
+said (line.Fees rates length) = Fees rates length
 said (line.Sheet length) = Sheet length
 
 -- what the words after a line's first say
@@ -67,7 +72,13 @@ said_at verb.Search words = do
 said_at verb.Reopen words = Ok (Reopen, words)
 said_at verb.Award words = do
   length ← optional_at 4 words
-  Ok (Award (unwrap_or length.0 64), length.1)
+  Ok (Award (unwrap_or length.0 BANDS), length.1)
+said_at verb.Fees words = do
+  first ← number_at 4 words
+  second ← number_at 4 first.1
+  third ← number_at 4 second.1
+  length ← optional_at 4 third.1
+  Ok (Fees (record { first = first.0; second = second.0; third = third.0 }) (unwrap_or length.0 BUYERS), length.1)
 said_at verb.Sheet words = do
   length ← optional_at 4 words
   Ok (Sheet length.0, length.1)

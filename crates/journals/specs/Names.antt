@@ -30,6 +30,7 @@ verbs =
     ∷ record { word = codes "search"; case = verb.Search }
     ∷ record { word = codes "reopen"; case = verb.Reopen }
     ∷ record { word = codes "award"; case = verb.Award }
+    ∷ record { word = codes "fees"; case = verb.Fees }
     ∷ record { word = codes "sheet"; case = verb.Sheet }
     ∷ []
 

@@ -11,10 +11,11 @@ use Rattle.offers.specs.declared.kinds.Kind.TheVariants as kind
 use Rattle.offers.specs.declared.memory.Offer.{Offer}
 use Rattle.offers.specs.declared.memory.Offer.TheVariants as offer
 use Rattle.pricing.specs.Numbers.{zone_numbers, currency_rates}
+use Rattle.fees.specs.declared.rates.FeeRates.{FeeRates}
 use Rattle.bounds.specs.declared.names.Named.{Named}
 use Rattle.bounds.specs.declared.names.Named.TheVariants as rule
 use Rattle.journals.specs.Chains.{Rules}
-use Rattle.journals.specs.Lines.{Said, File, Withdraw, CatchUp, Close, Search, Reopen, Award, Sheet}
+use Rattle.journals.specs.Lines.{Said, File, Withdraw, CatchUp, Close, Search, Reopen, Award, Fees, Sheet}
 use Rattle.journals.specs.Stacks.{PlainStack, Filed, Place, Currency}
 
 -- words behind others
@@ -93,6 +94,8 @@ words_of (Close plain_stack) = codes "close" ∷ stack_words plain_stack
 words_of (Search rules steps) = codes "search" ∷ rules_word rules ∷ decimal steps ∷ []
 words_of Reopen = codes "reopen" ∷ []
 words_of (Award length) = codes "award" ∷ decimal length ∷ []
+words_of (Fees rates length) =
+    codes "fees" ∷ decimal rates.first ∷ decimal rates.second ∷ decimal rates.third ∷ decimal length ∷ []
 words_of (Sheet length) = codes "sheet" ∷ length_words length
 
 -- what is written for a line
@@ -124,6 +127,9 @@ StackFits Filed = Unit {0}
 StackFits (Place zones) = ZonesFit zones
 StackFits (Currency preference expectation zones) = (currency_rates preference expectation ≡ true) × ZonesFit zones
 
+abbrev pub RatesFit : FeeRates → Type 0
+RatesFit rates = (rates.first < 2 ^ 32) × (rates.second < 2 ^ 32) × (rates.third < 2 ^ 32)
+
 -- Its values are such as a line can say: each number is one that its bytes hold, and a price rule's are in range.
 abbrev pub Fits : Said → Type 0
 Fits (File n o) = (n < 256) × OfferFits o
@@ -133,4 +139,5 @@ Fits (Close plain_stack) = StackFits plain_stack
 Fits (Search rules steps) = steps < 2 ^ 32
 Fits Reopen = Unit {0}
 Fits (Award length) = length < 2 ^ 32
+Fits (Fees rates length) = RatesFit rates × (length < 2 ^ 32)
 Fits (Sheet length) = IfSome length (λ n. n < 2 ^ 32)

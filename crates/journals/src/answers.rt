@@ -43,8 +43,8 @@ impl fmt::Display for Places<'_> {
     ghost output = { λ row. Some (flat_map place_text row.0.now) };
 
     fn fmt<W: fmt::Write>(&self, f: &mut fmt::Formatter<W>) -> fmt::Result {
-        for quantity in self.0 {
-            write!(f, " {quantity}")?;
+        for number in self.0 {
+            write!(f, " {number}")?;
         }
         Ok(())
     }
@@ -127,6 +127,7 @@ impl fmt::Display for AnswerLine<'_> {
                 let (choice, surplus) = (award.choice, award.surplus);
                 write!(f, "choice {choice} surplus {surplus} sold{}", Places(row))
             }
+            Reply::Charged(Ok(total), row) => write!(f, "fees {total}{}", Places(row)),
             Reply::Written(Ok(length), buffer) => {
                 let bytes = shown_bytes(self.shown, *length, buffer);
                 write!(f, "sheet {length}{}", Behind(bytes))
@@ -134,6 +135,7 @@ impl fmt::Display for AnswerLine<'_> {
             Reply::Done(Err(refusal))
             | Reply::Found(Err(refusal))
             | Reply::Awarded(Err(refusal), _)
+            | Reply::Charged(Err(refusal), _)
             | Reply::Written(Err(refusal), _) => write!(f, "{}", Refused(refusal)),
             Reply::NotTaken => write!(f, "not taken while {}", StageWord(self.stage)),
         }
@@ -203,6 +205,16 @@ mod tests {
             ),
             (
                 Reply::Awarded(Err(refusal), vec![in heap; 1]?),
+                Shown::Whole,
+                refused,
+            ),
+            (
+                Reply::Charged(Ok(7), vec![in heap; 0, 18446744073709551615, 7]?),
+                Shown::Whole,
+                "fees 7 0 18446744073709551615 7",
+            ),
+            (
+                Reply::Charged(Err(refusal), vec![in heap; 1]?),
                 Shown::Whole,
                 refused,
             ),

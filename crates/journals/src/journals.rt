@@ -136,8 +136,8 @@ mod tests {
         for line in [
             "file package 0 0 0 0 0 0 0 0 0 0 0 0 0",
             "file package 255 4294967295 4294967295 4294967295 4294967295 18446744073709551615 255 255 255 255 255 255 255",
-            "file band 0 0 0 0",
-            "file band 255 255 4294967295 4294967295",
+            "file band 0 0 0 0 0",
+            "file band 255 255 4294967295 4294967295 255",
             "file pair 0 0 0",
             "file pair 255 255 255",
             "file exclusion 0 0 0",
@@ -165,6 +165,9 @@ mod tests {
             "award 0",
             "award 64",
             "award 4294967295",
+            "fees 0 0 0 0",
+            "fees 100 50 10 16",
+            "fees 4294967295 4294967294 4294967293 4294967292",
             "reopen",
             "sheet",
             "sheet 0",
@@ -182,6 +185,7 @@ mod tests {
         check_lines(&rt, "\treopen  \r\nreopen", &["reopen", "reopen"])?;
         check_mistake(&rt, "reopen\r", "line 1: the first word names no call")?;
         check_lines(&rt, "award\n", &["award 64"])?;
+        check_lines(&rt, "fees 1 2 3\n", &["fees 1 2 3 16"])?;
         check_lines(&rt, "catch-up 0aFf\n", &["catch-up 0aff"])?;
         check_lines(
             &rt,
@@ -219,6 +223,8 @@ mod tests {
             ("reopen 1", "line 1: a word too many"),
             ("catch-up 00 00", "line 1: a word too many"),
             ("award 64 64", "line 1: a word too many"),
+            ("fees 1 2", "line 1: a word is missing"),
+            ("fees 1 2 3 4 5", "line 1: a word too many"),
             ("file pair 1 2 3 4", "line 1: a word too many"),
             (
                 "withdraw band +1",
@@ -247,6 +253,8 @@ mod tests {
             ("withdraw band 256", "line 1: a number is too large"),
             ("file band 1 256", "line 1: a number is too large"),
             ("file band 1 1 4294967296", "line 1: a number is too large"),
+            ("file band 1 1 1 1 256", "line 1: a number is too large"),
+            ("fees 1 2 4294967296", "line 1: a number is too large"),
             (
                 "file package 1 0 0 0 0 18446744073709551616",
                 "line 1: a number is too large",

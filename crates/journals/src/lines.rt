@@ -1,6 +1,7 @@
 //! The lines of a journal: what one says, read from its text.
 use crate::stacks::Stack;
 use bounds::{Chain, Named};
+use fees::FeeRates;
 use offers::{Kind, Offer};
 
 /// What a line says: a call.
@@ -17,6 +18,8 @@ pub enum Line {
     Reopen,
     /// the length of the row that is lent
     Award(u32),
+    /// the rates, and the length of the row that is lent
+    Fees(FeeRates, u32),
     /// the length of the buffer that is lent; none for one as long as the sheet
     Sheet(Option<u32>),
 }

@@ -19,6 +19,7 @@ pub enum Verb {
     Search,
     Reopen,
     Award,
+    Fees,
     Sheet,
 }
 
@@ -42,6 +43,7 @@ fn verb_named(word: &[u8]) -> Option<Verb>
         b"search" => Some(Verb::Search),
         b"reopen" => Some(Verb::Reopen),
         b"award" => Some(Verb::Award),
+        b"fees" => Some(Verb::Fees),
         b"sheet" => Some(Verb::Sheet),
         _ => None,
     }

@@ -33,6 +33,7 @@ fn band(words: &mut Words) -> Result<Band, Wrong>
         market: words.next_u8()?,
         quantity: words.next_u32()?,
         price: words.next_u32()?,
+        buyer: words.next_u8()?,
     })
 }
 

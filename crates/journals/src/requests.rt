@@ -17,7 +17,7 @@ use std::alloc::{AllocError, Global};
 pub type Pricing = OneOf<Filed, OneOf<Place<Filed>, Currency<Place<Filed>>>>;
 
 // The bytes of a sheet of a round that holds an offer under every number: for each kind so many fields of so many bytes.
-const FULLEST: usize = PACKAGES * 36 + BANDS * 14 + PAIRS * 7 + EXCLUSIONS * 7 + LIMITS * 11;
+const FULLEST: usize = PACKAGES * 36 + BANDS * 15 + PAIRS * 7 + EXCLUSIONS * 7 + LIMITS * 11;
 
 impl Zones {
     // The numbers as the place rule holds them.
@@ -80,6 +80,10 @@ impl Line {
             Line::Search(rules, steps) => Request::Search(rules, steps),
             Line::Reopen => Request::Reopen,
             Line::Award(length) => Request::ReadAward(vec![in heap; 0; length as usize]?),
+            Line::Fees(rates, length) => {
+                let row = vec![in heap; 0; length as usize]?;
+                Request::ReadFees(rates, row)
+            }
             Line::Sheet(length) => {
                 let length = length.map_or(FULLEST, |length| length as usize);
                 Request::WriteSheet(vec![in heap; 0; length]?)

@@ -127,16 +127,17 @@ mod tests {
         )?;
         let text =
             "file package 1 0 10 0 0 20 1 1 1 1 0 0 0\nfile package 2 0 10 0 0 20 1 1 1 1 0 0 0\n\
-        file band 1 4 10 5\nfile band 1 4 10 5\nwithdraw limit 1\naward\nsheet\nclose filed\n\
-        search limits+all-in 1\nsearch ceiling 1000000\naward 1\naward 64\nreopen\nsearch limits 1\n";
+        file band 1 4 10 5 1\nfile band 1 4 10 5 1\nwithdraw limit 1\naward\nsheet\nclose filed\n\
+        search limits+all-in 1\nsearch ceiling 1000000\naward 1\naward 64\nfees 100 0 0\nfees 0 101 0 0\nreopen\nsearch limits 1\n";
         let want = "done\ndone\ndone\nrefused 3 tag 2 number 1 field 0 byte 0 depth 0\n\
         refused 5 tag 5 number 1 field 0 byte 0 depth 0\nnot taken while open\n\
-        sheet 86 0100210101000000000000000a000000000000000000000000000000140101010100000001002102010000000000000\
+        sheet 87 0100210101000000000000000a000000000000000000000000000000140101010100000001002102010000000000000\
         00a0000000000000000000000000000001401010101000000020\
-        00b0101040000000a00000005\n\
+        00c0101040000000a0000000501\n\
         done\nsettled 2 surplus 30\nsettled 4 surplus 30\nrefused 11 tag 0 number 0 field 0 byte 0 depth 0\n\
         choice 1 surplus 30 sold 10 0 0 0 0 0 0 0 0 0 0 0 0 0 0 0 0 0 0 0 0 0 0 0 0 0 0 0 0 0 0 0 0 0 0 0 0 0 0 0 0 0 0 \
-        0 0 0 0 0 0 0 0 0 0 0 0 0 0 0 0 0 0 0 0 0\ndone\nnot taken while open\n";
+        0 0 0 0 0 0 0 0 0 0 0 0 0 0 0 0 0 0 0 0 0\nfees 50 50 0 0 0 0 0 0 0 0 0 0 0 0 0 0 0\n\
+        refused 13 tag 0 number 0 field 0 byte 0 depth 0\ndone\nnot taken while open\n";
         check_run(&rt, text, false, want)
     }
 

@@ -1,7 +1,7 @@
 -- What each code's number is, and which values a refusal with it carries.
 use Rattle.std.specs.Prelude.{◌≡◌, ℕ, Bool, true, false}
 use Rattle.offers.specs.declared.refusals.Code.{Code}
-use Rattle.offers.specs.declared.refusals.Code.TheVariants.{NumberOutside, FieldOutside, AlreadyOpen, AlreadyWithdrawn, NotFiled, CutShort, Strange, NotRising, Clash, PriceFault, NoRoom, StepsOutside}
+use Rattle.offers.specs.declared.refusals.Code.TheVariants.{NumberOutside, FieldOutside, AlreadyOpen, AlreadyWithdrawn, NotFiled, CutShort, Strange, NotRising, Clash, PriceFault, NoRoom, StepsOutside, RateOutside}
 use Rattle.offers.specs.declared.refusals.Refusal.{Refusal}
 
 abbrev pub code_number : Code → ℕ
@@ -17,6 +17,7 @@ code_number Clash = 9
 code_number PriceFault = 10
 code_number NoRoom = 11
 code_number StepsOutside = 12
+code_number RateOutside = 13
 
 -- a refusal that carries its code alone
 abbrev pub code_only : Code → Refusal
@@ -43,6 +44,7 @@ carried Clash = record { tag = true; number = true; field = false; byte = true; 
 carried PriceFault = record { tag = true; number = true; field = false; byte = false; depth = true }
 carried NoRoom = record { tag = false; number = false; field = false; byte = false; depth = false }
 carried StepsOutside = record { tag = false; number = false; field = false; byte = false; depth = false }
+carried RateOutside = record { tag = false; number = false; field = false; byte = false; depth = false }
 
 -- a value that is not carried is 0
 abbrev ZeroUnless : Bool → ℕ → Type 0

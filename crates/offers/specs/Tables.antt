@@ -24,6 +24,10 @@ EXCLUSIONS = 64
 abbrev pub LIMITS : ℕ
 LIMITS = 32
 
+-- and the buyers of bands are 1 to this
+abbrev pub BUYERS : ℕ
+BUYERS = 16
+
 -- power in MW, energy in MWh and certificates by the year, nameplate in MW, price in pesos;
 -- date: 0 standard, 1 before, 2 after; unqualified: 1 without connection priority; dollar: 1 indexed to dollars
 abbrev pub package_fields : List (Field Package)
@@ -42,12 +46,13 @@ package_fields =
     ∷ plain 1 (λ p. p.dollar) 0 1
     ∷ []
 
--- market: 1 to 3 power in that zone, 4 energy, 5 certificates; quantity in the market's unit, price in pesos for one
+-- market: 1 to 3 power in that zone, 4 energy, 5 certificates; quantity in the market's unit, price in pesos for one; buyer: who bids
 abbrev pub band_fields : List (Field Band)
 band_fields =
     plain 1 (λ b. b.market) 1 5
     ∷ plain 4 (λ b. b.quantity) 1 100000000
     ∷ plain 4 (λ b. b.price) 0 10000000
+    ∷ plain 1 (λ b. b.buyer) 1 BUYERS
     ∷ []
 
 -- a package that is taken only with another, the needed one
@@ -111,7 +116,12 @@ band_layout = record {
   tag = 2;
   count = BANDS;
   fields = band_fields;
-  record_of = λ vs. record { market = slice_index vs 0; quantity = slice_index vs 1; price = slice_index vs 2 };
+  record_of = λ vs. record {
+    market = slice_index vs 0;
+    quantity = slice_index vs 1;
+    price = slice_index vs 2;
+    buyer = slice_index vs 3;
+  };
 }
 
 abbrev pub pair_layout : Layout Pair

@@ -85,13 +85,13 @@ impl Record for Package {
 impl Record for Band {
     const TAG: u8 = 2;
 
-    const LENGTH: u16 = 9;
+    const LENGTH: u16 = 10;
 
     const COUNT: u8 = 64;
 
     ghost TAG = { 2 };
 
-    ghost LENGTH = { 9 };
+    ghost LENGTH = { 10 };
 
     ghost COUNT = { 64 };
 
@@ -112,6 +112,7 @@ impl Record for Band {
             within(self.market as u64, 1, 5),
             within(self.quantity as u64, 1, 100_000_000),
             within(self.price as u64, 0, 10_000_000),
+            within(self.buyer as u64, 1, 16),
         ])
     }
 
@@ -120,6 +121,7 @@ impl Record for Band {
             market: number_at::<1>(source, 0) as u8,
             quantity: number_at::<4>(source, 1) as u32,
             price: number_at::<4>(source, 5) as u32,
+            buyer: number_at::<1>(source, 9) as u8,
         }
     }
 
@@ -127,6 +129,7 @@ impl Record for Band {
         put::<1>(out, 0, self.market as u64);
         put::<4>(out, 1, self.quantity as u64);
         put::<4>(out, 5, self.price as u64);
+        put::<1>(out, 9, self.buyer as u64);
     }
 }
 

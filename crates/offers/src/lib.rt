@@ -16,8 +16,9 @@ pub use records::{Band, Date, Exclusion, Limit, Package, Pair, Record, Sort};
 /// The kinds by their tags, and a byte that stands for none.
 pub use kinds::{Kind, Unknown};
 
-/// All offers of a round: filed, and withdrawn, under the numbers of each kind; and how many numbers each kind has.
-pub use memory::{BANDS, EXCLUSIONS, LIMITS, Offer, Offers, PACKAGES, PAIRS};
+/// All offers of a round: filed, and withdrawn, under the numbers of each kind; how many numbers each kind has, and how many buyers
+/// there are.
+pub use memory::{BANDS, BUYERS, EXCLUSIONS, LIMITS, Offer, Offers, PACKAGES, PAIRS};
 
 /// The entries of one kind: owned as a ledger, or lent as a register.
 pub use ledgers::Ledger;

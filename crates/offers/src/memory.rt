@@ -30,6 +30,9 @@ pub const EXCLUSIONS: usize = 64;
 /// Those of limits.
 pub const LIMITS: usize = 32;
 
+/// The buyers of bands are 1 to this.
+pub const BUYERS: usize = 16;
+
 /// The entries of all kinds.
 #[derive(Clone, Copy)]
 pub struct Offers {

@@ -101,6 +101,8 @@ pub struct Band {
     pub quantity: u32,
     /// pesos for one
     pub price: u32,
+    /// who bids, 1 to 16
+    pub buyer: u8,
 }
 
 /// A package that may be taken only together with another.

@@ -25,10 +25,12 @@ pub enum Code {
     Clash = 9,
     /// a package whose price cannot be had
     PriceFault = 10,
-    /// a buffer shorter than the sheet, or a row shorter than 64
+    /// a buffer shorter than the sheet, a row for an award shorter than 64, or one for fees shorter than 16
     NoRoom = 11,
     /// a count of steps outside 1 to 1,000,000
     StepsOutside = 12,
+    /// a rate of a fee above 100 hundredths of a per cent
+    RateOutside = 13,
 }
 
 impl Code {

@@ -1,9 +1,9 @@
 -- What every call of the plain round keeps: no entry goes back, and a call that is not accepted alters nothing.
-use Rattle.std.proofs.Common.{◌≡◌, ℕ, true, List, [], ◌∷◌, length, get_or, leb, ℤ, Some, None, Ok, Err, Result, sym, refl, ap, ◌∙◌, subst}
+use Rattle.std.proofs.Common.{◌≡◌, ℕ, true, List, [], ◌∷◌, length, get_or, leb, not, ℤ, Some, None, Ok, Err, Result, sym, refl, ap, ◌∙◌, subst}
 use Rattle.std.proofs.lemmas.Bool.{cond_both, true≢false}
 use Rattle.std.proofs.lemmas.Option.{none-some}
 use Rattle.offers.specs.declared.records.Package.{Package}
-use Rattle.offers.specs.declared.refusals.Code.TheVariants.{NoRoom, StepsOutside}
+use Rattle.offers.specs.declared.refusals.Code.TheVariants.{NoRoom, StepsOutside, RateOutside}
 use Rattle.offers.specs.declared.refusals.Refusal.{Refusal}
 use Rattle.offers.specs.Fields.{within}
 use Rattle.offers.specs.declared.kinds.Kind.{Kind}
@@ -22,8 +22,11 @@ use Rattle.clearing.specs.Bands.{Numbered}
 use Rattle.clearing.specs.Closing.{open_from, priced, priced_as, no_price, closed_with}
 use Rattle.pricing.specs.Prices.{Meaning}
 use Rattle.clearing.specs.Lawful.{View, nothing_open}
+use Rattle.fees.specs.declared.rates.FeeRates.{FeeRates}
+use Rattle.fees.specs.Charges.{Charge}
+use Rattle.fees.specs.Fees.{rates_in_range}
 use Rattle.search.specs.Search.{Standing}
-use Rattle.rounds.specs.Model.{Call, File, Withdraw, CatchUp, Close, Search, Reopen, ReadAward, WriteSheet, Done, Reopened, Written, NotTaken, State, IsOpen, IsClosed, IsAwarded, PlainRound, plain_round, Stepped, accepted, told, closed, written, step_in, step}
+use Rattle.rounds.specs.Model.{Call, File, Withdraw, CatchUp, Close, Search, Reopen, ReadAward, ReadFees, WriteSheet, Done, Reopened, Charged, Written, NotTaken, State, IsOpen, IsClosed, IsAwarded, PlainRound, plain_round, Stepped, accepted, told, closed, written, step_in, step}
 use Rattle.rounds.specs.Promises.{Keeps, refusal_in, lent_with, lent_back}
 
 -- no entry goes back, and no record changes
@@ -105,6 +108,18 @@ awarded_keeps all v at lent =
     (λ _. accepted_keeps _ (ReadAward lent) _ (still all) refl refl)
     (λ _. bare _ _ (ReadAward lent) refl refl refl)
 
+charged_keeps : (all : Entries) (v : View) (at : Standing) (rates : FeeRates) (lent : List ℕ)
+    → Keeps (plain_round all (IsAwarded v at)) (ReadFees rates lent) (step_in all (IsAwarded v at) (ReadFees rates lent))
+charged_keeps all v at rates lent =
+    cond_both (not (rates_in_range rates)) _ _ kept
+    (λ _. refused_keeps _ (ReadFees rates lent) _ (code_only RateOutside) refl refl refl (record { tag = refl; number = refl; field = refl; byte = refl; depth = refl }))
+    (λ _. cond_both (not (leb 16 (length lent))) _ _ kept
+    (λ _. bare _ _ (ReadFees rates lent) refl refl refl)
+    (λ _. accepted_keeps _ (ReadFees rates lent) _ (still all) refl refl))
+  where
+    kept : Charge → Type 0
+    kept c = Keeps (plain_round all (IsAwarded v at)) (ReadFees rates lent) (told all (IsAwarded v at) (Charged c.answer c.row))
+
 written_keeps : (all : Entries) (s : State) (buffer : List ℕ) → Keeps (plain_round all s) (WriteSheet buffer) (told all s (written all buffer))
 written_keeps all s buffer =
     cond_both (leb (length (sheet_of all)) (length buffer)) _ _ (λ (w : WrittenSheet). Keeps (plain_round all s) (WriteSheet buffer) (told all s (Written w.answer w.buffer)))
@@ -120,6 +135,7 @@ keeps_in all IsOpen (Close price) = closed_keeps all price (priced price (open_f
 keeps_in all IsOpen (Search rule count) = not_taken all IsOpen (Search rule count)
 keeps_in all IsOpen Reopen = not_taken all IsOpen Reopen
 keeps_in all IsOpen (ReadAward lent) = not_taken all IsOpen (ReadAward lent)
+keeps_in all IsOpen (ReadFees rates lent) = not_taken all IsOpen (ReadFees rates lent)
 keeps_in all IsOpen (WriteSheet buffer) = written_keeps all IsOpen buffer
 keeps_in all (IsClosed v at) (File n x) = not_taken all (IsClosed v at) (File n x)
 keeps_in all (IsClosed v at) (Withdraw kind n) = not_taken all (IsClosed v at) (Withdraw kind n)
@@ -128,6 +144,7 @@ keeps_in all (IsClosed v at) (Close price) = not_taken all (IsClosed v at) (Clos
 keeps_in all (IsClosed v at) (Search rule count) = searched_keeps all v at rule count
 keeps_in all (IsClosed v at) Reopen = accepted_keeps (plain_round all (IsClosed v at)) Reopen (told all IsOpen Reopened) (still all) refl refl
 keeps_in all (IsClosed v at) (ReadAward lent) = not_taken all (IsClosed v at) (ReadAward lent)
+keeps_in all (IsClosed v at) (ReadFees rates lent) = not_taken all (IsClosed v at) (ReadFees rates lent)
 keeps_in all (IsClosed v at) (WriteSheet buffer) = written_keeps all (IsClosed v at) buffer
 keeps_in all (IsAwarded v at) (File n x) = not_taken all (IsAwarded v at) (File n x)
 keeps_in all (IsAwarded v at) (Withdraw kind n) = not_taken all (IsAwarded v at) (Withdraw kind n)
@@ -136,6 +153,7 @@ keeps_in all (IsAwarded v at) (Close price) = not_taken all (IsAwarded v at) (Cl
 keeps_in all (IsAwarded v at) (Search rule count) = not_taken all (IsAwarded v at) (Search rule count)
 keeps_in all (IsAwarded v at) Reopen = accepted_keeps (plain_round all (IsAwarded v at)) Reopen (told all IsOpen Reopened) (still all) refl refl
 keeps_in all (IsAwarded v at) (ReadAward lent) = awarded_keeps all v at lent
+keeps_in all (IsAwarded v at) (ReadFees rates lent) = charged_keeps all v at rates lent
 keeps_in all (IsAwarded v at) (WriteSheet buffer) = written_keeps all (IsAwarded v at) buffer
 
 -- The step of the plain round keeps it all.

@@ -55,6 +55,7 @@ module _ {P B : Type 0} (meaning : P → Meaning) (answers : B → Answers) (bou
   lawful_request (request.Search rule count) = sound rule
   lawful_request request.Reopen = tt
   lawful_request (request.ReadAward lent) = tt
+  lawful_request (request.ReadFees rates lent) = tt
   lawful_request (request.WriteSheet buffer) = tt
 
   -- and so are those of a run

@@ -29,7 +29,7 @@ use Rattle.bounds.specs.Blocks.{SoundRule}
 use Rattle.search.specs.Search.{Standing, Placed, Leading, Leads, finished, after_steps}
 use Rattle.search.proofs.Placings.{start-placed}
 use Rattle.search.proofs.Leadings.{start-leads}
-use Rattle.rounds.specs.Model.{NotTaken, Reopened, told, award, written, Call, File, Withdraw, CatchUp, Close, Search, Reopen, ReadAward, WriteSheet, Answer, State, IsOpen, IsClosed, IsAwarded, PlainRound, plain_round, Stepped, accepted, step_in, step, open_and_vacant, after}
+use Rattle.rounds.specs.Model.{NotTaken, Reopened, told, award, charged, written, Call, File, Withdraw, CatchUp, Close, Search, Reopen, ReadAward, ReadFees, WriteSheet, Answer, State, IsOpen, IsClosed, IsAwarded, PlainRound, plain_round, Stepped, accepted, step_in, step, open_and_vacant, after}
 use Rattle.rounds.specs.Promises.{LawfulCall, withdraws, withdrawn, closes, LastClosing, Promise, PromiseIn}
 use Rattle.rounds.proofs.Entered.{vacant_sound, filed_sound, withdrawn_sound, caught_sound}
 use Rattle.rounds.proofs.Dockets.{made, made_by, none_taken}
@@ -216,6 +216,7 @@ next calls all IsOpen (Close price) is law h = closes_on calls all h.sound h.gon
 next calls all IsOpen (Search rule count) is law h = quiet calls all IsOpen (Search rule count) NotTaken h.sound tt (λ i no _. true≢false (sym no))
 next calls all IsOpen Reopen is law h = quiet calls all IsOpen Reopen NotTaken h.sound tt (λ i no _. true≢false (sym no))
 next calls all IsOpen (ReadAward lent) is law h = quiet calls all IsOpen (ReadAward lent) NotTaken h.sound tt (λ i no _. true≢false (sym no))
+next calls all IsOpen (ReadFees rates lent) is law h = quiet calls all IsOpen (ReadFees rates lent) NotTaken h.sound tt (λ i no _. true≢false (sym no))
 next calls all IsOpen (WriteSheet buffer) is law h = quiet calls all IsOpen (WriteSheet buffer) (written all buffer) h.sound tt (λ i no _. true≢false (sym no))
 next calls all (IsClosed v at) (File n x) is law h = quiet calls all (IsClosed v at) (File n x) NotTaken h.sound (stays calls v at (File n x) h.in_state refl) (λ i no _. true≢false (sym no))
 next calls all (IsClosed v at) (Withdraw k n) is law h = quiet calls all (IsClosed v at) (Withdraw k n) NotTaken h.sound (stays calls v at (Withdraw k n) h.in_state refl) (λ i _ no. true≢false (sym no))
@@ -224,6 +225,7 @@ next calls all (IsClosed v at) (Close price) is law h = quiet calls all (IsClose
 next calls all (IsClosed v at) (Search rule count) is law h = searches_on calls all h.sound h.gone v at rule count law h.in_state
 next calls all (IsClosed v at) Reopen is law h = quiet calls all IsOpen Reopen Reopened h.sound tt (λ i no _. true≢false (sym no))
 next calls all (IsClosed v at) (ReadAward lent) is law h = quiet calls all (IsClosed v at) (ReadAward lent) NotTaken h.sound (stays calls v at (ReadAward lent) h.in_state refl) (λ i no _. true≢false (sym no))
+next calls all (IsClosed v at) (ReadFees rates lent) is law h = quiet calls all (IsClosed v at) (ReadFees rates lent) NotTaken h.sound (stays calls v at (ReadFees rates lent) h.in_state refl) (λ i no _. true≢false (sym no))
 next calls all (IsClosed v at) (WriteSheet buffer) is law h = quiet calls all (IsClosed v at) (WriteSheet buffer) (written all buffer) h.sound (stays calls v at (WriteSheet buffer) h.in_state refl) (λ i no _. true≢false (sym no))
 next calls all (IsAwarded v at) (File n x) is law h = quiet calls all (IsAwarded v at) (File n x) NotTaken h.sound (stays calls v at (File n x) h.in_state.0 refl, h.in_state.1) (λ i no _. true≢false (sym no))
 next calls all (IsAwarded v at) (Withdraw k n) is law h = quiet calls all (IsAwarded v at) (Withdraw k n) NotTaken h.sound (stays calls v at (Withdraw k n) h.in_state.0 refl, h.in_state.1) (λ i _ no. true≢false (sym no))
@@ -232,6 +234,7 @@ next calls all (IsAwarded v at) (Close price) is law h = quiet calls all (IsAwar
 next calls all (IsAwarded v at) (Search rule count) is law h = quiet calls all (IsAwarded v at) (Search rule count) NotTaken h.sound (stays calls v at (Search rule count) h.in_state.0 refl, h.in_state.1) (λ i no _. true≢false (sym no))
 next calls all (IsAwarded v at) Reopen is law h = quiet calls all IsOpen Reopen Reopened h.sound tt (λ i no _. true≢false (sym no))
 next calls all (IsAwarded v at) (ReadAward lent) is law h = quiet calls all (IsAwarded v at) (ReadAward lent) (award v at lent) h.sound (stays calls v at (ReadAward lent) h.in_state.0 refl, h.in_state.1) (λ i no _. true≢false (sym no))
+next calls all (IsAwarded v at) (ReadFees rates lent) is law h = quiet calls all (IsAwarded v at) (ReadFees rates lent) (charged rates v at lent) h.sound (stays calls v at (ReadFees rates lent) h.in_state.0 refl, h.in_state.1) (λ i no _. true≢false (sym no))
 next calls all (IsAwarded v at) (WriteSheet buffer) is law h = quiet calls all (IsAwarded v at) (WriteSheet buffer) (written all buffer) h.sound (stays calls v at (WriteSheet buffer) h.in_state.0 refl, h.in_state.1) (λ i no _. true≢false (sym no))
 
 -- so a package that was withdrawn by then is gone

@@ -15,7 +15,7 @@ use Rattle.search.specs.Search.{Standing, Placed, Leads, finished, after_step, a
 use Rattle.search.proofs.Placings.{Moved, step-placed, moves_on}
 use Rattle.search.proofs.Leadings.{step-leads}
 use Rattle.search.proofs.Zeros.{power-smaller}
-use Rattle.rounds.specs.Model.{Call, File, Withdraw, CatchUp, Close, Search, Reopen, ReadAward, WriteSheet, IsClosed, IsAwarded, plain_round, accepted, Found, told, searched, after_from, some_accepted}
+use Rattle.rounds.specs.Model.{Call, File, Withdraw, CatchUp, Close, Search, Reopen, ReadAward, ReadFees, WriteSheet, IsClosed, IsAwarded, plain_round, accepted, Found, told, searched, after_from, some_accepted}
 use Rattle.rounds.specs.Promises.{reopens, steps_of, steps_given, settled_in}
 
 -- a search that is not finished has a choice to settle
@@ -76,6 +76,7 @@ awarded_stays all v at (Close price ∷ more) none = awarded_stays all v at more
 awarded_stays all v at (Search rule count ∷ more) none = awarded_stays all v at more none
 awarded_stays all v at (Reopen ∷ more) none = absurd (true≢false none)
 awarded_stays all v at (ReadAward lent ∷ more) none = awarded_stays all v at more none
+awarded_stays all v at (ReadFees rates lent ∷ more) none = awarded_stays all v at more none
 awarded_stays all v at (WriteSheet buffer ∷ more) none = awarded_stays all v at more none
 
 -- as many steps as there are packages settle a choice, over any calls but a reopening
@@ -91,6 +92,7 @@ settles all v from at so_far (CatchUp sheet ∷ more) placed below moved none en
 settles all v from at so_far (Close price ∷ more) placed below moved none enough = settles all v from at so_far more placed below moved none (omega arith)
 settles all v from at so_far (Reopen ∷ more) placed below moved none enough = absurd (true≢false none)
 settles all v from at so_far (ReadAward lent ∷ more) placed below moved none enough = settles all v from at so_far more placed below moved none (omega arith)
+settles all v from at so_far (ReadFees rates lent ∷ more) placed below moved none enough = settles all v from at so_far more placed below moved none (omega arith)
 settles all v from at so_far (WriteSheet buffer ∷ more) placed below moved none enough = settles all v from at so_far more placed below moved none (omega arith)
 settles all v from at so_far (Search rule count ∷ more) placed below moved none enough =
     by (within 1 1000000 count) (settles all v from at so_far more placed below moved)

@@ -17,6 +17,8 @@ use Rattle.clearing.specs.Lawful.{View, nothing_open}
 use Rattle.clearing.specs.Choices.{taken, supply}
 use Rattle.clearing.specs.Sales.{sale_of}
 use Rattle.clearing.specs.Tallies.{row}
+use Rattle.fees.specs.declared.rates.FeeRates.{FeeRates}
+use Rattle.fees.specs.Charges.{charging}
 use Rattle.bounds.specs.Blocks.{Answers}
 use Rattle.rounds.specs.declared.awarded_round.Award.{Award}
 use Rattle.search.specs.Search.{Standing, start_position, finished, after_steps}
@@ -34,6 +36,8 @@ pub data Call : Type 0 where
   Reopen : Call
   -- with the row that is lent
   ReadAward : List ℕ → Call
+  -- with the rates, and the row that is lent
+  ReadFees : FeeRates → List ℕ → Call
   -- with the buffer that is lent
   WriteSheet : List ℕ → Call
 
@@ -45,6 +49,8 @@ pub data Answer : Type 0 where
   Reopened : Answer
   -- the award, and the row after the call
   Awarded : Result Award Refusal → List ℕ → Answer
+  -- the fees of all buyers together, and the row after the call
+  Charged : Result ℕ Refusal → List ℕ → Answer
   -- the sheet's length, and the buffer after the call
   Written : Result ℕ Refusal → List ℕ → Answer
   -- a call that this state of a round does not take
@@ -56,6 +62,7 @@ accepted (Done r) = is_ok r
 accepted (Found r) = is_ok r
 accepted Reopened = true
 accepted (Awarded r row) = is_ok r
+accepted (Charged r row) = is_ok r
 accepted (Written r buffer) = is_ok r
 accepted NotTaken = false
 
@@ -116,6 +123,10 @@ award v at lent =
     then Awarded (Ok (record { choice = at.leader; surplus = at.surplus })) (sold_row v at.leader ++ drop BANDS lent)
     else Awarded (Err (code_only NoRoom)) lent
 
+-- the fees on what the award sells; the row has a place for each buyer
+abbrev pub charged : FeeRates → View → Standing → List ℕ → Answer
+charged rates v at lent = Charged (charging rates v at.leader lent).answer (charging rates v at.leader lent).row
+
 abbrev pub written : Entries → List ℕ → Answer
 written entries buffer = Written (write_sheet entries buffer).answer (write_sheet entries buffer).buffer
 
@@ -130,6 +141,7 @@ step_in all (IsClosed v at) (Search rule count) =
 step_in all (IsClosed v at) Reopen = told all IsOpen Reopened
 step_in all (IsAwarded v at) Reopen = told all IsOpen Reopened
 step_in all (IsAwarded v at) (ReadAward lent) = told all (IsAwarded v at) (award v at lent)
+step_in all (IsAwarded v at) (ReadFees rates lent) = told all (IsAwarded v at) (charged rates v at lent)
 step_in all state (WriteSheet buffer) = told all state (written all buffer)
 step_in all state call = told all state NotTaken
 

@@ -14,7 +14,7 @@ use Rattle.clearing.specs.Closing.{OfOpen, closing}
 use Rattle.clearing.specs.Lawful.{View, nothing_open, filled_sales, choices}
 use Rattle.bounds.specs.Blocks.{SoundRule}
 use Rattle.search.specs.Search.{Standing, Leading}
-use Rattle.rounds.specs.Model.{Call, File, Withdraw, CatchUp, Close, Search, Reopen, ReadAward, WriteSheet, Answer, Done, Found, Reopened, Awarded, Written, NotTaken, State, IsOpen, IsClosed, IsAwarded, PlainRound, Stepped, accepted, sold_row, step, open_and_vacant, after_from, after, some_accepted}
+use Rattle.rounds.specs.Model.{Call, File, Withdraw, CatchUp, Close, Search, Reopen, ReadAward, ReadFees, WriteSheet, Answer, Done, Found, Reopened, Awarded, Charged, Written, NotTaken, State, IsOpen, IsClosed, IsAwarded, PlainRound, Stepped, accepted, sold_row, step, open_and_vacant, after_from, after, some_accepted}
 
 -- a call whose rule, if it has one, shows its law: prices in range, or answers that are true of every block of every docket that a closing makes
 abbrev pub LawfulCall : Call → Type 0
@@ -25,6 +25,7 @@ LawfulCall (Close price) = BoundedRule price
 LawfulCall (Search rule count) = SoundRule rule
 LawfulCall Reopen = Unit {0}
 LawfulCall (ReadAward lent) = Unit {0}
+LawfulCall (ReadFees rates lent) = Unit {0}
 LawfulCall (WriteSheet buffer) = Unit {0}
 
 abbrev pub is_package : Kind → Bool
@@ -43,6 +44,7 @@ withdraws n (Close price) = false
 withdraws n (Search rule count) = false
 withdraws n Reopen = false
 withdraws n (ReadAward lent) = false
+withdraws n (ReadFees rates lent) = false
 withdraws n (WriteSheet buffer) = false
 
 -- package n is withdrawn once an accepted call says so
@@ -58,6 +60,7 @@ closes (Close price) = true
 closes (Search rule count) = false
 closes Reopen = false
 closes (ReadAward lent) = false
+closes (ReadFees rates lent) = false
 closes (WriteSheet buffer) = false
 
 -- the call is a reopening
@@ -69,6 +72,7 @@ reopens (Close price) = false
 reopens (Search rule count) = false
 reopens Reopen = true
 reopens (ReadAward lent) = false
+reopens (ReadFees rates lent) = false
 reopens (WriteSheet buffer) = false
 
 -- The last accepted closing among calls, and the docket of the offers that were open at it.
@@ -96,6 +100,7 @@ steps_of (Close price) so = 0
 steps_of (Search rule count) so = if so then count else 0
 steps_of Reopen so = 0
 steps_of (ReadAward lent) so = 0
+steps_of (ReadFees rates lent) so = 0
 steps_of (WriteSheet buffer) so = 0
 
 -- the steps that the accepted searches among calls are given, together
@@ -153,6 +158,8 @@ refusal_in (Found (Err e)) = Some e
 refusal_in Reopened = None
 refusal_in (Awarded (Ok award) row) = None
 refusal_in (Awarded (Err e) row) = Some e
+refusal_in (Charged (Ok total) row) = None
+refusal_in (Charged (Err e) row) = Some e
 refusal_in (Written (Ok size) buffer) = None
 refusal_in (Written (Err e) buffer) = Some e
 refusal_in NotTaken = None
@@ -166,6 +173,7 @@ lent_with (Close price) = []
 lent_with (Search rule count) = []
 lent_with Reopen = []
 lent_with (ReadAward lent) = lent
+lent_with (ReadFees rates lent) = lent
 lent_with (WriteSheet buffer) = buffer
 
 -- what an answer leaves of it; a row or buffer that comes with a call that is not taken is not given back
@@ -174,6 +182,7 @@ lent_back (Done r) = []
 lent_back (Found r) = []
 lent_back Reopened = []
 lent_back (Awarded r row) = row
+lent_back (Charged r row) = row
 lent_back (Written r buffer) = buffer
 lent_back NotTaken = []
 

@@ -8,7 +8,7 @@ use Rattle.rounds.specs.declared.requests.Request.{Request}
 use Rattle.rounds.specs.declared.requests.Request.TheVariants as request
 use Rattle.rounds.specs.declared.requests.Reply.{Reply}
 use Rattle.rounds.specs.declared.requests.Reply.TheVariants as reply
-use Rattle.rounds.specs.Model.{Call, File, Withdraw, CatchUp, Close, Search, Reopen, ReadAward, WriteSheet, Answer, Done, Found, Reopened, Awarded, Written, NotTaken, PlainRound, Stepped}
+use Rattle.rounds.specs.Model.{Call, File, Withdraw, CatchUp, Close, Search, Reopen, ReadAward, ReadFees, WriteSheet, Answer, Done, Found, Reopened, Awarded, Charged, Written, NotTaken, PlainRound, Stepped}
 use Rattle.rounds.specs.Views.{of_open, of_closed, of_awarded, gave}
 
 abbrev pub of_round : Round → PlainRound
@@ -25,6 +25,7 @@ call_of meaning answers (request.Close rule) = Close (meaning rule)
 call_of meaning answers (request.Search rule count) = Search (answers rule) count
 call_of meaning answers request.Reopen = Reopen
 call_of meaning answers (request.ReadAward lent) = ReadAward (vec_items lent)
+call_of meaning answers (request.ReadFees rates lent) = ReadFees rates (vec_items lent)
 call_of meaning answers (request.WriteSheet buffer) = WriteSheet (vec_items buffer)
 
 abbrev pub answer_of : Reply → Answer
@@ -32,6 +33,7 @@ answer_of (reply.Done r) = Done r
 answer_of (reply.Found r) = Found r
 answer_of reply.Reopened = Reopened
 answer_of (reply.Awarded r lent) = Awarded r (vec_items lent)
+answer_of (reply.Charged r lent) = Charged r (vec_items lent)
 answer_of (reply.Written r buffer) = Written r (vec_items buffer)
 answer_of reply.NotTaken = NotTaken
 

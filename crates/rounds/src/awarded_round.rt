@@ -4,6 +4,7 @@ ghost use Rattle.clearing.specs.Lawful.{choices};
 
 use crate::open_round::OpenRound;
 use clearing::{Docket, Tally, sales_row};
+use fees::{FeeRates, charge_fees};
 use offers::{BANDS, Code, Offers, Refusal};
 use search::Position;
 use sheets::write_sheet;
@@ -25,7 +26,9 @@ pub struct AwardedRound {
 }
 
 impl AwardedRound {
-    ghost use Rattle.rounds.specs.Model.{ReadAward, Reopen, WriteSheet, Awarded, Reopened, Written};
+    ghost use Rattle.std.specs.Prelude.{IfOk};
+    ghost use Rattle.fees.specs.Charges.{FairFees};
+    ghost use Rattle.rounds.specs.Model.{ReadAward, ReadFees, Reopen, WriteSheet, Awarded, Charged, Reopened, Written};
     ghost use Rattle.rounds.specs.Views.{of_open, of_awarded, gave, docket_in, Serves};
 
     /// The award, with what each band is sold, by offer number, in the row's first 64 places; a longer row keeps its rest, and a
@@ -40,6 +43,17 @@ impl AwardedRound {
         let sold = sales_row(&self.docket, &taken.supply);
         row[..BANDS].copy_from_slice(&sold);
         Ok(leader(self.at))
+    }
+
+    /// Writes the fee of each buyer on what the award sells it, by rising number, into the row's first 16 places, and gives their total;
+    /// all in centavos. A longer row keeps its rest. Refused with code 13 where a rate is above 100, then with code 11 where the row is
+    /// shorter; the row then stays as it is.
+    pub fn fees(&self, rates: FeeRates, row: &mut [u64]) -> Result<u64, Refusal>
+        ensures served { Serves (of_awarded self.now) (ReadFees rates row.old) (gave (of_awarded self.now) (Charged result row.new)) }
+        // what the fees are, in words of the subject
+        ensures fair { IfOk result (FairFees rates self.now.docket self.now.at.leader row.new) }
+    {
+        charge_fees(&self.docket, self.at.leader, rates, row)
     }
 
     /// What was open at the closing.

@@ -15,7 +15,7 @@ pub use open_round::OpenRound;
 /// A closed round, with a docket and where its search stands: `search`, which leaves it closed or awarded, `write_sheet`, `reopen`.
 pub use closed_round::{ClosedRound, Searched};
 
-/// An awarded round, whose search has finished: `award`, `docket`, `write_sheet`, `reopen`.
+/// An awarded round, whose search has finished: `award`, `fees`, `docket`, `write_sheet`, `reopen`.
 pub use awarded_round::{Award, AwardedRound};
 
 /// A round in whatever state: `serve` answers one request to it.

@@ -9,6 +9,7 @@ use crate::closed_round::{ClosedRound, Searched};
 use crate::open_round::OpenRound;
 use crate::replays::Stage;
 use bounds::BoundingRule;
+use fees::FeeRates;
 use offers::{Kind, Offer, Offers, Refusal};
 use pricing::PriceRule;
 
@@ -57,6 +58,7 @@ pub enum Request<P, B> {
     Search(B, u32),
     Reopen,
     ReadAward(Vec<u64>),
+    ReadFees(FeeRates, Vec<u64>),
     WriteSheet(Vec<u8>),
 }
 
@@ -67,6 +69,7 @@ pub enum Reply {
     Found(Result<(u64, i64), Refusal>),
     Reopened,
     Awarded(Result<Award, Refusal>, Vec<u64>),
+    Charged(Result<u64, Refusal>, Vec<u64>),
     Written(Result<usize, Refusal>, Vec<u8>),
     NotTaken,
 }
@@ -153,6 +156,10 @@ fn serve_awarded<P: PriceRule + Drop, B: BoundingRule + Drop>(
         Request::ReadAward(mut row) => {
             let answer = round.award(&mut row);
             (Round::Awarded(round), Reply::Awarded(answer, row))
+        }
+        Request::ReadFees(rates, mut row) => {
+            let answer = round.fees(rates, &mut row);
+            (Round::Awarded(round), Reply::Charged(answer, row))
         }
         Request::Reopen => (Round::Open(round.reopen()), Reply::Reopened),
         Request::WriteSheet(mut buffer) => {

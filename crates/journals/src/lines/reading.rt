@@ -11,10 +11,14 @@ use crate::records::offer;
 use crate::stacks::stack;
 use crate::words::Words;
 use crate::wrongs::ReadError;
+use fees::FeeRates;
+use offers::{BANDS, BUYERS};
 use std::alloc::Global;
 
-// The row of an award, where its length is not said.
-const ROW: u32 = 64;
+// The places of a row, where its length is not said: one for each band, or for each buyer.
+const SALES_ROW: u32 = BANDS as u32;
+
+const FEES_ROW: u32 = BUYERS as u32;
 
 // What the words after a line's first say.
 #[tactic(auto, unfolding(crate::specs::Lines::said_at))]
@@ -38,7 +42,15 @@ fn rest(heap: Global, verb: Verb, words: &mut Words) -> Result<Line, ReadError>
             Line::Search(rules, words.next_u32()?)
         }
         Verb::Reopen => Line::Reopen,
-        Verb::Award => Line::Award(words.optional_u32()?.unwrap_or(ROW)),
+        Verb::Award => Line::Award(words.optional_u32()?.unwrap_or(SALES_ROW)),
+        Verb::Fees => {
+            let rates = FeeRates {
+                first: words.next_u32()?,
+                second: words.next_u32()?,
+                third: words.next_u32()?,
+            };
+            Line::Fees(rates, words.optional_u32()?.unwrap_or(FEES_ROW))
+        }
         Verb::Sheet => Line::Sheet(words.optional_u32()?),
     })
 }

@@ -80,7 +80,7 @@ impl fmt::Display for FieldWords<'_> {
     fn fmt<W: fmt::Write>(&self, f: &mut fmt::Formatter<W>) -> fmt::Result {
         match self.0 {
             Offer::Package(package) => write!(f, "{}", PackageWords(package)),
-            Offer::Band(b) => write!(f, " {} {} {}", b.market, b.quantity, b.price),
+            Offer::Band(b) => write!(f, " {} {} {} {}", b.market, b.quantity, b.price, b.buyer),
             Offer::Pair(p) => write!(f, " {} {}", p.dependent, p.needed),
             Offer::Exclusion(e) => write!(f, " {} {}", e.group, e.member),
             Offer::Limit(l) => write!(f, " {} {} {}", l.sort, l.zone, l.amount),
@@ -160,6 +160,10 @@ impl fmt::Display for Line {
             Line::Search(rules, steps) => write!(f, "search {} {steps}", Joined(rules)),
             Line::Reopen => write!(f, "reopen"),
             Line::Award(length) => write!(f, "award {length}"),
+            Line::Fees(rates, length) => {
+                let (first, second, third) = (rates.first, rates.second, rates.third);
+                write!(f, "fees {first} {second} {third} {length}")
+            }
             Line::Sheet(Some(length)) => write!(f, "sheet {length}"),
             Line::Sheet(None) => write!(f, "sheet"),
         }

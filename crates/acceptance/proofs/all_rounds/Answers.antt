@@ -2,7 +2,7 @@
 use Rattle.std.proofs.Common.{refl, rules}
 use lib.Count.{count_trailing_zeros}
 use Rattle.acceptance.proofs.Cleared.{clears}
-use Rattle.acceptance.proofs.twelve_rounds.Goals as goal
+use Rattle.acceptance.proofs.all_rounds.Goals as goal
 
 pub returns : goal.returns
 unfolding count_trailing_zeros
@@ -24,4 +24,5 @@ returns c = record {
   own_price_above_zero = refl;
   older_sheet = record { answers = refl; after = refl };
   another_price_clashes = record { answers = refl; after = refl };
+  one_buyer = refl;
 }

@@ -1,0 +1,4 @@
+pub mod Rounding
+pub mod Values
+pub mod Writing
+pub mod Fairness
