@@ -3,6 +3,7 @@ pub mod Parts
 pub mod Splits
 pub mod Ceiling
 pub mod AllIn
+pub mod Counted
 pub mod OneByOne
 pub mod Limits
 pub mod Shares

@@ -2,6 +2,7 @@
 use Rattle.std.specs.Prelude.{◌≡◌, ℕ, ◌*◌, true, List, ℤ, ◌≤ℤ◌, ◌==◌, cond, zero, suc, ◌+◌, ◌-◌, ◌/◌, ◌%◌, ◌^◌, ◌<◌, Bool, false, [], ◌∷◌, take, pos, ◌+ℤ◌, refl}
 use Rattle.std.proofs.Common.{le_trans, arith, sym, ap, ap₂, ◌∙◌}
 use Rattle.std.proofs.lemmas.Int.{ints, clamps}
+use Rattle.std.proofs.lemmas.Nat.{pow_pos}
 use Rattle.clearing.specs.declared.dockets.PricedPackage.{PricedPackage}
 use Rattle.clearing.specs.Choices.{taken, cost}
 use Rattle.clearing.specs.Lawful.{View}
@@ -65,6 +66,10 @@ least-is (suc k) q r low (p ∷ ps) =
     ∙ sym (ap₂ (λ digit digits. cost (cond (digit == 1) (p ∷ taken ps digits) (taken ps digits)) +ℤ below_zero (p ∷ take k ps)) first.0 first.1)
 
 module _ (v : View) (b : Span) (block : InDocket v b) where
+  -- what a block of a docket costs at least, by its first choice
+  pub least_first : least_cost b.free b.first v.packages ≡ cost (fixed v b) +ℤ below_zero (free_ones v b)
+  least_first = rw (first_is v b block) at (least-is b.free (fixed_digits v b block) 0 (pow_pos b.free) v.packages)
+
   -- each of its choices costs no less
   pub cost-least : (choice : ℕ) → InBlock b choice → (cost (fixed v b) +ℤ below_zero (free_ones v b)) ≤ℤ cost (taken v.packages choice)
   cost-least choice inside =
