@@ -49,8 +49,11 @@ fn register_length<R: Record>(entries: &[Entry<R>]) -> usize
     ensures value { result ≡ length (register_bytes R.Record.layout 1 entries.now) }
     ensures bound { result ≤ 64 * 65538 }
 {
-    let held = entries.iter().filter(|entry| !entry.is_vacant());
-    held.count() * (HEADER + content_bytes::<R>())
+    let held: usize = entries
+        .iter()
+        .map(|entry| usize::from(!entry.is_vacant()))
+        .sum();
+    held * (HEADER + content_bytes::<R>())
 }
 
 // Writes a register's fields from `at` on, and gives where they end.
