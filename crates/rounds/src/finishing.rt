@@ -13,7 +13,8 @@ pub trait Progress {
     fn note(&mut self, settled: u64, choices: u64, surplus: i64);
 }
 
-/// Searches by a rule until every choice is settled, a million steps at a time, and tells after each time how far it is.
+/// Searches by a rule until every choice is settled, a million steps at a time, and tells after each time how far it is. Of a docket
+/// with no package, whose one choice is settled from the start, nothing is told.
 pub fn finish<B: BoundingRule, P: Progress>(
     round: ClosedRound,
     rule: &mut B,
@@ -27,8 +28,9 @@ pub fn finish<B: BoundingRule, P: Progress>(
     let mut closed = round;
     'turns: loop {
         let (next, found) = closed.search(rule, steps);
-        if let Ok((settled, surplus)) = found {
-            progress.note(settled, all, surplus);
+        match found {
+            Ok((settled, surplus)) if all > 1 => progress.note(settled, all, surplus),
+            _ => {}
         }
         match next {
             Searched::Closed(still) => closed = still,
