@@ -1,5 +1,6 @@
 mod Printed
 mod Calls
 mod SheetDockets
+mod FilledBands
 mod Tellings
 mod OneAnswer

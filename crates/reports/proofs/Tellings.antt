@@ -1,27 +1,21 @@
 -- What is told of a sheet that is cleared, or not, answers it.
-use Rattle.std.proofs.Common.{◌≡◌, ℕ, ◌-◌, true, false, List, [], ◌∷◌, ◌++◌, map, replicate, get_or, ℤ, Ok, Result, sym, refl, ap, ap₂, ◌∙◌, subst, rules}
+use Rattle.std.proofs.Common.{◌≡◌, ℕ, true, false, List, [], ◌∷◌, ◌++◌, replicate, ℤ, Ok, Result, sym, refl, ap, ap₂, ◌∙◌, subst, rules}
 use Rattle.offers.specs.declared.records.Package.{Package}
 use Rattle.offers.specs.declared.refusals.Refusal.{Refusal}
 use Rattle.pricing.specs.Prices.{Bounded, filed_price}
-use Rattle.clearing.specs.declared.dockets.OpenBand.{OpenBand}
 use Rattle.clearing.specs.Lawful.{View, surplus, filled_sales}
 use Rattle.bounds.specs.Blocks.{Answers}
 use Rattle.search.specs.Search.{Standing}
 use Rattle.rounds.specs.declared.awarded_round.AwardedRound.{AwardedRound}
-use Rattle.rounds.specs.Model.{Search, Done, open_and_vacant, sold_row}
+use Rattle.rounds.specs.Model.{Search, Done, open_and_vacant}
 use Rattle.rounds.specs.Promises.{OfAward}
 use Rattle.reports.specs.declared.report.Report.{Report}
 use Rattle.reports.specs.declared.report.Sold.{Sold}
 use Rattle.reports.specs.Answering.{AnswersDocket, AnswersSheet}
 use Rattle.reports.specs.Cleared.{Cleared, NotCleared, sheet_calls}
-use Rattle.reports.specs.Reports.{Reports, sold_bands}
+use Rattle.reports.specs.Reports.{Reports}
 use Rattle.reports.specs.Text.{text_of, report_text, award_text, refused_text}
 use Rattle.reports.proofs.SheetDockets.{closing_of, docket_of, refused_of}
-
--- what a map makes of bands, each beside its number
-beside : (f : OpenBand → ℕ) (bs : List OpenBand) → map (λ b. record { band = b.number; quantity = f b }) bs ≡ sold_bands bs (map f bs)
-beside f [] = refl
-beside f (b ∷ bs) = ap (λ (rest : List Sold). record { band = b.number; quantity = f b } ∷ rest) (beside f bs)
 
 -- equal values have equal text
 same_text : (n n' m m' : ℕ) (packages packages' : List ℕ) (bands bands' : List Sold) (worth worth' : ℤ)
@@ -32,12 +26,10 @@ same_text n n' m m' packages packages' bands bands' worth worth' a b c d e =
     ∙ ap₂ (λ (ps : List ℕ) (bs : List Sold). text_of n' m' ps bs worth) c d
     ∙ ap (text_of n' m' packages' bands') e
 
--- so a report of a leader whose sales fill the bands has the text of its choice
-told : (v : View) (at : Standing) (report : Report) → Reports v at report → at.surplus ≡ surplus v at.leader (filled_sales v at.leader)
-    → map (λ b. get_or (sold_row v at.leader) (b.number - 1) 0) v.bands ≡ filled_sales v at.leader → report_text report ≡ award_text v at.leader
-told v at report r worth sales =
-    same_text _ _ _ _ _ _ _ _ _ _ r.open_packages r.all_choices r.packages
-    (r.bands ∙ beside (λ b. get_or (sold_row v at.leader) (b.number - 1) 0) v.bands ∙ ap (sold_bands v.bands) sales) (r.worth ∙ worth)
+-- so a report of a leader has the text of its choice
+told : (v : View) (at : Standing) (report : Report) → Reports v at report → at.surplus ≡ surplus v at.leader (filled_sales v at.leader) → report_text report ≡ award_text v at.leader
+told v at report r worth =
+    same_text _ _ _ _ _ _ _ _ _ _ r.open_packages r.all_choices r.packages r.sales (r.worth ∙ worth)
 
 first_done : (a b : Result Unit Refusal) → Done a ∷ Done b ∷ [] ≡ Done (Ok tt) ∷ Done (Ok tt) ∷ [] → a ≡ Ok tt
 first_done a b e = cc
@@ -55,7 +47,7 @@ awarded_answers rule sheet round report cleared reports =
     let award : OfAward (sheet_calls sheet ++ replicate f.searches (Search rule f.steps)) v at = f.run (sheet_calls sheet) (tt, (filed_bounded, tt)) refl in
     let docket = docket_of sheet v (first_done _ _ cleared.accepted) (closing_of sheet f.searches rule f.steps v award.closing) in
     subst (λ (r : Result View Refusal). AnswersDocket r false (report_text report)) (sym docket)
-    (refl, record { choice = at.leader; best = award.award.best; so = told v at report reports award.award.worth award.sales })
+    (refl, record { choice = at.leader; best = award.award.best; so = told v at report reports award.award.worth })
 
 -- And so does the text of the refusal of one that is not cleared.
 pub refused_answers : (sheet : List ℕ) (why : Refusal) → NotCleared open_and_vacant sheet why → AnswersSheet sheet true (refused_text (record { 0 = why }))

@@ -2,7 +2,7 @@
 use Rattle.std.specs.Prelude.{◌≡◌, ℕ, ◌-◌, List, [], ◌∷◌, map, length, vec_items, slice_index_or}
 use Rattle.clearing.specs.declared.dockets.OpenBand.{OpenBand}
 use Rattle.clearing.specs.Choices.{taken}
-use Rattle.clearing.specs.Lawful.{View, choices}
+use Rattle.clearing.specs.Lawful.{View, choices, filled_sales}
 use Rattle.search.specs.Search.{Standing}
 use Rattle.rounds.specs.Model.{State, IsOpen, IsClosed, IsAwarded, sold_row}
 use Rattle.reports.specs.declared.report.Sold.{Sold}
@@ -25,6 +25,8 @@ pub record Reports (v : View) (award : Standing) (report : Report) : Type 0 wher
   pub packages : vec_items report.packages ≡ map (λ p. p.number) (taken v.packages award.leader)
   -- each open band with what the award's row has at its number
   pub bands : vec_items report.bands ≡ map (sold_line (sold_row v award.leader)) v.bands
+  -- which are the sales that fill the bands
+  pub sales : vec_items report.bands ≡ sold_bands v.bands (filled_sales v award.leader)
   pub worth : report.surplus ≡ award.surplus
 
 -- only an awarded round has a report

@@ -1,5 +1,5 @@
 //! A sheet's whole way: its bytes are read, its round is cleared, and the text of its award or its refusal is written.
-ghost use Rattle.std.specs.Prelude.{◌≡◌, ◌≤◌, IfOk, IfSome, take, vec_len};
+ghost use Rattle.std.specs.Prelude.{◌≡◌, ◌≤◌, IfOk, IfSome, take};
 ghost use Rattle.rounds.specs.Views.{of_open};
 ghost use Rattle.reports.specs.Answering.{Answered, MAX_SHEET_BYTES};
 ghost use Rattle.reports.specs.Cleared.{ClearsTo};
@@ -13,7 +13,7 @@ use printing::write_text;
 use rounds::{AwardedRound, OpenRound, Progress, finish};
 use std::alloc::Global;
 use std::io;
-use std::io::{Read, Write};
+use std::io::{ErrorKind, Read, Write};
 
 // The most bytes of a sheet that are read.
 const MAX_SHEET_BYTES: usize = 4096;
@@ -29,9 +29,10 @@ pub fn answer_sheet<R: Read + Drop, W: Write, P: Progress>(
 ) -> io::Result<bool>
     ensures { IfOk result (Answered (R.remaining input) (W.contents output.old) (W.contents output.new)) }
 {
-    let sheet = read_sheet(heap, input)?;
+    let mut sheet = [0u8; MAX_SHEET_BYTES];
+    let count = read_sheet(input, &mut sheet)?;
     let round = OpenRound::new(heap)?;
-    match clear(round, &sheet, rules, progress) {
+    match clear(round, &sheet[..count], rules, progress) {
         Ok(awarded) => {
             let report = Report::new(heap, &awarded)?;
             write_text(heap, &report, output)?;
@@ -44,17 +45,26 @@ pub fn answer_sheet<R: Read + Drop, W: Write, P: Progress>(
     }
 }
 
-// The bytes that come, up to MAX_SHEET_BYTES; the rest is left unread.
-fn read_sheet<R: Read + Drop>(heap: Global, input: R) -> io::Result<Vec<u8>>
-    ensures few { IfOk result (λ sheet. vec_len sheet ≤ MAX_SHEET_BYTES) }
-    ensures bytes { IfOk result (λ sheet. IfSome (R.remaining input) (λ all. sheet.items ≡ take MAX_SHEET_BYTES all)) }
+// Reads until the input ends or the array is full, and answers how many bytes came; the rest is left unread. It gets no memory.
+// A read that a signal interrupts is tried again.
+fn read_sheet<R: Read + Drop>(mut input: R, sheet: &mut [u8; MAX_SHEET_BYTES]) -> io::Result<usize>
+    ensures few { IfOk result (λ count. count ≤ MAX_SHEET_BYTES) }
+    ensures bytes { IfOk result (λ count. IfSome (R.remaining input) (λ all. take count sheet.new ≡ take MAX_SHEET_BYTES all)) }
 {
-    // room for one more, so that the end of a full sheet is found with no more memory
-    let mut sheet = Vec::with_capacity(heap, MAX_SHEET_BYTES + 1)?;
-    input.take(MAX_SHEET_BYTES as u64).read_to_end(&mut sheet)?;
-    // `take` promises its limit only where the bytes to come are known
-    sheet.truncate(MAX_SHEET_BYTES);
-    Ok(sheet)
+    let mut count = 0;
+    for _ in 0..u64::MAX {
+        if count == MAX_SHEET_BYTES {
+            return Ok(count);
+        }
+        match input.read(&mut sheet[count..]) {
+            Ok(0) => return Ok(count),
+            Ok(more) => count += more,
+            Err(e) if e.kind() == ErrorKind::Interrupted => {}
+            Err(e) => return Err(e),
+        }
+    }
+    // reached only after almost 2^64 interrupted reads
+    Err(io::Error::from(ErrorKind::TimedOut))
 }
 
 // The award of a sheet: caught up with, closed with the prices as filed, and searched to the end.

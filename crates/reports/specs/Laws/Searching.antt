@@ -1,7 +1,7 @@
 -- Why the rules of a search are sound: they are joined of sound ones.
 use Rattle.bounds.specs.declared.names.Named.TheVariants.{AllIn, Limits, Shares, Tangent}
 use Rattle.bounds.specs.Blocks.{SoundRule}
-use Rattle.bounds.specs.Rules.{all_in, limits_kept, shares_kept, tangent, joined}
+use Rattle.bounds.specs.Rules.{all_in, limits_kept, shares_kept, tangent}
 use Rattle.bounds.specs.Laws.Joined.{joined-sound}
 use Rattle.bounds.specs.Laws.Names.{named-sound}
 use Rattle.reports.specs.declared.searching.Rules.{Rules}
