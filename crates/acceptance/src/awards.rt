@@ -246,7 +246,7 @@ fn check_rule<R: Abort + AllocGlobal, B: BoundingRule + Copy + Drop>(
     let limited = packages.map(unqualified);
     let mut dated = packages;
     dated[2].date = 1;
-    let rounds: [(&[Package], &[Offer], u64, i64); 7] = [
+    let rounds: [(&[Package], &[Offer], u64, i64); 12] = [
         (&packages, &[], 13, 123_500_000),
         (&packages, &[excluded(1), excluded(3)], 14, 103_000_000),
         (&packages, &[needs(3, 2)], 15, 118_500_000),
@@ -254,6 +254,16 @@ fn check_rule<R: Abort + AllocGlobal, B: BoundingRule + Copy + Drop>(
         (&limited, &[limit(1, 1, 49)], 6, 80_500_000),
         (&dated, &[limit(3, 1, 25)], 13, 123_500_000),
         (&dated, &[limit(3, 1, 24)], 15, 118_500_000),
+        (&packages, &[needs(3, 2), needs(2, 1)], 15, 118_500_000),
+        (
+            &limited,
+            &[limit(1, 1, 50), limit(1, 1, 60)],
+            5,
+            111_500_000,
+        ),
+        (&limited, &[limit(1, 1, 49), limit(1, 1, 60)], 6, 80_500_000),
+        (&dated, &[limit(3, 1, 25), limit(3, 1, 60)], 13, 123_500_000),
+        (&dated, &[limit(3, 1, 24), limit(3, 1, 60)], 15, 118_500_000),
     ];
     for (packages, others, choice, surplus) in rounds {
         let mut requests = filing(rt.alloc(), packages, &six_bands(), others)?;
