@@ -1,4 +1,4 @@
-//! A reader and a writer that fail.
+//! Readers and a writer that fail.
 use std::alloc::Global;
 use std::io;
 use std::io::{ErrorKind, Read, Write};
@@ -16,6 +16,31 @@ impl Read for CutOff {
         }
         self.is_cut = true;
         buf[0] = b'#';
+        Ok(1)
+    }
+}
+
+/// Gives the bytes one by one, and is interrupted before each.
+#[derive(Drop)]
+pub struct Interrupted<'a> {
+    pub rest: &'a [u8],
+    pub is_next: bool,
+}
+
+impl Read for Interrupted<'_> {
+    fn read(&mut self, buf: &mut [u8]) -> io::Result<usize> {
+        self.is_next = !self.is_next;
+        if !self.is_next {
+            return Err(io::Error::from(ErrorKind::Interrupted));
+        }
+        let [byte, others @ ..] = self.rest else {
+            return Ok(0);
+        };
+        let [first, ..] = buf else {
+            return Ok(0);
+        };
+        *first = *byte;
+        self.rest = others;
         Ok(1)
     }
 }

@@ -1,5 +1,6 @@
 //! What comes of a sheet or a journal whose bytes end in a failure, and of a text for which there is no room.
-use crate::failing::{CutOff, Full};
+use crate::failing::{CutOff, Full, Interrupted};
+use crate::fixtures::TWO_PACKAGES;
 use journals::run_journal;
 use reports::{Rules, answer_sheet};
 use rounds::Progress;
@@ -23,6 +24,20 @@ fn a_sheet_cut_off(rt: HostRuntime) {
         Err(e) => assert!(rt; e.kind() == ErrorKind::TimedOut),
     }
     assert!(rt; output.is_empty());
+}
+
+// A read that is interrupted is tried again.
+#[test]
+fn a_sheet_in_pieces(rt: HostRuntime) -> Result<(), Fail> {
+    let mut output = Vec::new(rt.alloc());
+    let reader = Interrupted {
+        rest: TWO_PACKAGES,
+        is_next: true,
+    };
+    assert!(rt; !answer_sheet(rt.alloc(), reader, &mut output, Rules::Quick, &mut Silent)?);
+    let text = "open 2 choices 4\npackage 1\nband 1 sold 10\nsurplus 30\n";
+    assert_eq!(rt; output.as_slice(), text.as_bytes());
+    Ok(())
 }
 
 #[test]

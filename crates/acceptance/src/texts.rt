@@ -64,6 +64,18 @@ fn two_packages_and_a_band(rt: HostRuntime) -> Result<(), Fail> {
     Ok(())
 }
 
+// Of a round with no offers, whose one choice is settled from the start, no word of its search is told.
+#[test]
+fn nothing_told_of_no_offers(rt: HostRuntime) -> Result<(), Fail> {
+    let Ok(closed) = OpenRound::new(rt.alloc())?.close(&mut Filed) else {
+        return Err(Fail::new("not closed"));
+    };
+    let mut last = Last(0, 0, 0);
+    finish(closed, &mut LIMITS_AND_ALL_IN, &mut last);
+    assert_eq!(rt; (last.0, last.1, last.2), (0, 0, 0));
+    Ok(())
+}
+
 #[test]
 fn refused_sheet(rt: HostRuntime) -> Result<(), Fail> {
     let refused = RefusedSheet(Refusal {
